@@ -1,0 +1,4 @@
+pub mod Base64
+pub mod FieldLaws
+pub mod HexDigits
+pub mod Splits

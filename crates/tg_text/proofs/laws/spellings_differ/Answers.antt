@@ -1,0 +1,5 @@
+use Rattle.tg_text.proofs.FieldLaws.{base64_once, decimal_once, hex_once}
+use Rattle.tg_text.proofs.laws.spellings_differ.Goals as goal
+
+pub returns : goal.returns
+returns c = record { decimal = decimal_once; hex = hex_once; base64 = base64_once }

@@ -1,0 +1,4 @@
+pub mod Order
+pub mod Padded
+pub mod Reading
+pub mod Spelling

@@ -1,0 +1,36 @@
+//! Names, scopes, keys and short texts as plain values, and the spelling of the fields and lines of every text.
+//!
+//! `specs/Spelling.antt` says how each field is spelled, and every reader's contract cites it through `Reads`: what is
+//! found is spelled so, and what is spelled so is found. All crates that read or write a text stand on this one.
+#![tactic(auto)]
+
+mod bytes;
+mod fields;
+mod items;
+mod keys;
+mod laws;
+mod lines;
+mod memory;
+mod names;
+mod public_key;
+mod text;
+mod title;
+mod user_name;
+mod word;
+mod writing;
+
+pub use bytes::Bytes;
+pub use fields::{read_base64, read_decimal, read_hex32};
+pub use items::Items;
+pub use keys::{BoxLine, KeyId, KeyLines, Scope, compare_keys, compare_scopes};
+pub use laws::{fields_are_whole, spellings_differ};
+pub use lines::{Lines, split_once};
+pub use memory::Memory;
+pub use names::{DeviceId, LinkName, PublicKey};
+pub use title::Title;
+pub use user_name::{RoleName, UserName};
+pub use word::Word;
+pub use writing::{write_base64, write_decimal, write_hex};
+
+#[cfg(test)]
+mod tests;
