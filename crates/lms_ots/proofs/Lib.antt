@@ -1,0 +1,5 @@
+pub mod Buffers
+pub mod Steps
+pub mod Widths
+pub mod Pieces
+pub mod Signed

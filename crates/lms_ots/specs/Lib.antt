@@ -1,0 +1,5 @@
+pub mod Kinds
+pub mod Digits
+pub mod Chains
+pub mod Ots
+pub mod Rows

@@ -1,0 +1,5 @@
+pub mod Powers
+pub mod Filled
+pub mod Climbs
+pub mod Conditions
+pub mod Verified

@@ -1,0 +1,6 @@
+pub mod LmsKinds
+pub mod Nodes
+pub mod Signatures
+pub mod Verifying
+pub mod Making
+pub mod Rows
