@@ -1,0 +1,5 @@
+use Rattle.team_model.proofs.Counting.{counting}
+use Rattle.team_model.proofs.laws.counting_are_permitted.Goals as goal
+
+pub returns : goal.returns
+returns c links differ = counting links differ

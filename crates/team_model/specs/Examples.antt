@@ -1,0 +1,57 @@
+-- Worked examples. Names of one byte are enough: nothing here knows that a name has 32.
+use Rattle.std.specs.Prelude.{◌≡◌, ℕ, List, [], ◌∷◌, map, codes, Some, None}
+use Rattle.team_sets.specs.Names.{Name}
+use Rattle.acts.specs.declared.entry.Act.{Act}
+use Rattle.acts.specs.declared.entry.Act.TheVariants.{Found, Title, Join}
+use Rattle.team_model.specs.declared.terms.Link.{Link}
+use Rattle.team_model.specs.declared.terms.Verdict.TheVariants.{Counts, Unlawful, Waiting}
+use Rattle.team_model.specs.declared.terms.Reason.TheVariants.{NotListed}
+use Rattle.team_model.specs.Arrival.{arrived}
+use Rattle.team_model.specs.ShowText.{show_text}
+use Rattle.team_model.specs.Judging.{verdict, team, team_rules}
+
+abbrev link : ℕ → List ℕ → ℕ → Act → Link
+link n ps u a = record {
+  team = None;
+  prev = map (λ p. p ∷ []) ps;
+  name = n ∷ [];
+  key = [];
+  signature = [];
+  entry = record { user = u ∷ []; device = u ∷ []; time = 0; act = a; lines = record { news = []; boxes = [] } };
+}
+
+-- a root, two titles beside each other, a join behind both, a title by a stranger, and a join whose parent isn't there
+abbrev pub reef : List Link
+reef = link 9 (2 ∷ 5 ∷ []) 1 Join ∷ link 5 (7 ∷ []) 1 (Title (codes "High tide")) ∷ link 7 [] 1 (Found [] (codes "Reef crew"))
+    ∷ link 2 (7 ∷ []) 1 (Title (codes "Low tide")) ∷ link 3 (7 ∷ []) 8 (Title (codes "Mine")) ∷ link 4 (6 ∷ []) 1 Join ∷ []
+
+abbrev pub ReefRow : Type 0
+ReefRow = ((team team_rules reef).title ≡ Some (codes "High tide"))
+    × (map (verdict team_rules reef) reef ≡ Counts ∷ Counts ∷ Counts ∷ Counts ∷ Unlawful NotListed ∷ Waiting ∷ [])
+
+abbrev by : Name → ℕ → List ℕ → Act → Link
+by u n ps a = record (link n ps 0 a) { entry = record (link n ps 0 a).entry { user = u; device = 1 ∷ [] } }
+
+-- the team of the first path, as it is shown
+abbrev pub shown : List Link
+shown = by (codes "ann") 7 [] (Found [] (codes "Reef crew")) ∷ by (codes "ann") 5 (7 ∷ []) (Title (codes "High tide"))
+    ∷ by (codes "ann") 2 (7 ∷ []) (Title (codes "Low tide")) ∷ by (codes "ann") 9 (2 ∷ 5 ∷ []) Join ∷ []
+
+abbrev pub ShownRow : Type 0
+ShownRow = (show_text (7 ∷ []) shown
+    ≡ codes "team 07\ntitle High tide\nlinks 4 waiting 0 counting 4\nmember ann admin\ndevice ann 01\nrole admin\ndebt none team\ndebt none role:admin\ndebt none user:ann\nend\n")
+    × (show_text (7 ∷ []) [] ≡ codes "team 07\nlinks 0 waiting 0 counting 0\nend\n")
+
+-- the root comes last, after its children 4 and 3 and the child 2 of 4: it connects first, then 3, 4 and 2
+abbrev pub ArrivalRow : Type 0
+ArrivalRow = map (λ x. x.name) (arrived (link 4 (9 ∷ []) 1 Join ∷ link 2 (4 ∷ []) 1 Join ∷ link 3 (9 ∷ []) 1 Join ∷ link 9 [] 1 Join ∷ link 1 (2 ∷ []) 1 Join ∷ []))
+    ≡ (9 ∷ []) ∷ (3 ∷ []) ∷ (4 ∷ []) ∷ (2 ∷ []) ∷ (1 ∷ []) ∷ []
+
+-- two titles whose root isn't there: they wait, and nothing else is said. The root then comes, last
+abbrev pub early : List Link
+early = by (codes "ann") 5 (7 ∷ []) (Title (codes "High tide")) ∷ by (codes "ann") 2 (7 ∷ []) (Title (codes "Low tide")) ∷ []
+
+abbrev pub WaitingRow : Type 0
+WaitingRow = (show_text (7 ∷ []) early ≡ codes "team 07\nlinks 2 waiting 2 counting 0\nend\n")
+    × (show_text (7 ∷ []) (by (codes "ann") 7 [] (Found [] (codes "Reef crew")) ∷ early)
+    ≡ codes "team 07\ntitle High tide\nlinks 3 waiting 0 counting 3\nmember ann admin\ndevice ann 01\nrole admin\ndebt none team\ndebt none role:admin\ndebt none user:ann\nend\n")

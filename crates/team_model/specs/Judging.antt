@@ -1,0 +1,125 @@
+-- Which links are lawful, which stand, the team of a set of links, and what became of each link.
+-- A set of links is a list of them in any order; `order` gives its connected links in the order of the team.
+use Rattle.std.specs.Prelude.{ℕ, zero, suc, Bool, not, ◌&&◌, ◌||◌, if◌then◌else◌, List, [], map, length, filter, fold, find, take_while, Option, is_none, unwrap_or}
+use Rattle.std.specs.List.{list_any}
+use Rattle.std.specs.Option.{option_map_or}
+use Rattle.team_sets.specs.Names.{Name, same_name, has_name}
+use Rattle.team_sets.specs.Order.{order}
+use Rattle.team_sets.specs.Places.{place_lt, least_place}
+use Rattle.team_sets.specs.Ancestry.{past, are_concurrent, height}
+use Rattle.team_sets.specs.Settlement.{standing, decision, Decided, stands, struck, lost}
+use Rattle.team_model.specs.Strikes.{is_striking, brings_user, strikes}
+use Rattle.team_model.specs.State.{State, empty_state}
+use Rattle.team_model.specs.ActTable.{refusal, after}
+use Rattle.acts.specs.declared.entry.Entry.{Entry}
+use Rattle.team_model.specs.declared.terms.Link.{Link}
+use Rattle.team_model.specs.declared.terms.Reason.{Reason}
+use Rattle.team_model.specs.declared.terms.Verdict.{Verdict}
+use Rattle.team_model.specs.declared.terms.Verdict.TheVariants.{Counts, Unlawful, Struck, Outranked, Refused, Waiting}
+
+-- the rules of acts: why an entry is refused in a state, and the state after it
+pub record Rules : Type 0 where
+  pub refusal : State → Entry → Option Reason
+  pub after : State → Entry → State
+
+abbrev pub team_rules : Rules
+team_rules = record { refusal = refusal; after = after }
+
+abbrev pub name_of : Link → Name
+name_of x = x.name
+
+abbrev pub prev_of : Link → List Name
+prev_of x = x.prev
+
+abbrev pub order_of : List Link → List Link
+order_of links = order name_of prev_of links
+
+abbrev pub past_of : List Link → Link → List Link
+past_of links x = past name_of prev_of links x
+
+-- a link's place in the graph: its height and its name
+abbrev pub place_of : List Link → Link → ℕ × Name
+place_of links x = (height name_of prev_of links x, x.name)
+
+abbrev pub strikes_in : List Link → Link → Link → Bool
+strikes_in links x y = are_concurrent name_of prev_of links x y && strikes x.entry y.entry
+
+-- what follows is over a set of links and the lawful ones among its connected links, in their order
+module _ (links lawful : List Link) where
+  -- the least place of a lawful link that brings the user in
+  abbrev pub seniority : Name → ℕ × Name
+  seniority u = unwrap_or (least_place (map (place_of links) (filter (λ x. brings_user x.entry u) lawful))) (0, [])
+
+  -- whether the rank of x is smaller: by the seniority of its user, and then by its own place
+  abbrev pub is_senior : Link → Link → Bool
+  is_senior x y = place_lt (seniority x.entry.user) (seniority y.entry.user)
+      || (not (place_lt (seniority y.entry.user) (seniority x.entry.user)) && place_lt (place_of links x) (place_of links y))
+
+  abbrev pub strikers : List Link
+  strikers = filter (λ x. is_striking x.entry.act) lawful
+
+  abbrev pub standing_strikers : List Link
+  standing_strikers = standing is_senior (strikes_in links) strikers
+
+  abbrev pub decision_in : Link → Decided Link
+  decision_in x = decision is_senior (strikes_in links) strikers x
+
+  -- a striker has to stand, and no standing striker may strike the link
+  abbrev pub stays : List Link → Link → Bool
+  stays stand x = (not (is_striking x.entry.act) || has_name (map name_of stand) x.name)
+      && not (list_any (λ s. strikes_in links s x) stand)
+
+  abbrev pub resolved_from : List Link
+  resolved_from = filter (stays standing_strikers) lawful
+
+  -- the first standing striker, in the order, that strikes x
+  abbrev pub first_striker : Link → Option Link
+  first_striker x = find (λ s. has_name (map name_of standing_strikers) s.name && strikes_in links s x) lawful
+
+module _ (rules : Rules) where
+  abbrev pub fold_team : List Link → State
+  fold_team xs = fold (λ s x. rules.after s x.entry) empty_state xs
+
+  -- the lawful ones of the connected links, in their order, by the team of each one's past
+  abbrev pub lawful_by : (List Link → State) → List Link → List Link
+  lawful_by team links = filter (λ x. is_none (rules.refusal (team (past_of links x)) x.entry)) (order_of links)
+
+  -- the team of a set of at most n links
+  abbrev pub team_within : ℕ → List Link → State
+  team_within zero links = empty_state
+  team_within (suc n) links = fold_team (resolved_from links (lawful_by (team_within n) links))
+
+  abbrev pub team : List Link → State
+  team links = team_within (length links) links
+
+  abbrev pub unlawful_reason : List Link → Link → Option Reason
+  unlawful_reason links x = rules.refusal (team (past_of links x)) x.entry
+
+  abbrev pub lawful : List Link → List Link
+  lawful links = lawful_by team links
+
+  abbrev pub resolved : List Link → List Link
+  resolved links = resolved_from links (lawful links)
+
+  -- the part of the resolved list that stands before x
+  abbrev pub before_turn : List Link → Link → List Link
+  before_turn links x = take_while (λ y. not (same_name y.name x.name)) (resolved links)
+
+  abbrev pub at_turn : List Link → Link → Verdict
+  at_turn links x = option_map_or (λ r. Refused r) (rules.refusal (fold_team (before_turn links x)) x.entry) Counts
+
+  abbrev pub striker_verdict : List Link → Link → Decided Link → Verdict
+  striker_verdict links x stands = at_turn links x
+  striker_verdict links x (struck s) = Struck s.name
+  striker_verdict links x (lost s) = Outranked s.name
+
+  abbrev pub lawful_verdict : List Link → Link → Verdict
+  lawful_verdict links x =
+      if is_striking x.entry.act then striker_verdict links x (decision_in links (lawful links) x)
+      else option_map_or (λ s. Struck s.name) (first_striker links (lawful links) x) (at_turn links x)
+
+  abbrev pub verdict : List Link → Link → Verdict
+  verdict links x =
+      if has_name (map name_of (order_of links)) x.name
+      then option_map_or (λ r. Unlawful r) (unlawful_reason links x) (lawful_verdict links x)
+      else Waiting

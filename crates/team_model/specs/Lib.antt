@@ -1,0 +1,9 @@
+pub mod ActTable
+pub mod Arrival
+pub mod Counting
+pub mod Examples
+pub mod Judging
+pub mod JudgingLaws
+pub mod ShowText
+pub mod State
+pub mod Strikes

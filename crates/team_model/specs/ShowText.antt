@@ -1,0 +1,53 @@
+-- What `show` prints.
+use Rattle.std.specs.Prelude.{ℕ, ◌-◌, Bool, true, false, if◌then◌else◌, List, [], ◌∷◌, ◌++◌, length, filter, codes, flat_map, is_none}
+use Rattle.std.specs.Option.{option_map_or}
+use Rattle.team_sets.specs.Names.{Name, same_name, name_lt, ascending}
+use Rattle.tg_text.specs.Spelling.{spell_decimal, spell_hex, line_of}
+use Rattle.team_model.specs.State.{State}
+use Rattle.team_model.specs.Judging.{order_of, team, team_rules, verdict}
+use Rattle.team_model.specs.declared.terms.Link.{Link}
+use Rattle.team_model.specs.declared.terms.Device.{Device}
+use Rattle.team_model.specs.declared.terms.Verdict.{Verdict}
+use Rattle.team_model.specs.declared.terms.Verdict.TheVariants.{Counts}
+
+abbrev pub is_counting : Verdict → Bool
+is_counting Counts = true
+is_counting _ = false
+
+-- how many links count. Waiting links don't, so the connected ones are looked through, in the order of the team
+abbrev pub count_counting : List Link → ℕ
+count_counting links = length (filter (λ x. is_counting (verdict team_rules links x)) (order_of links))
+
+-- the devices in order of their users and then of their ids
+abbrev pub device_lt : Device → Device → Bool
+device_lt a b = if same_name a.user b.user then name_lt a.id b.id else name_lt a.user b.user
+
+abbrev pub member_lines : State → List ℕ
+member_lines s = flat_map (λ m. line_of (codes "member" ∷ m.user ∷ m.roles)) s.members
+
+abbrev pub device_lines : State → List ℕ
+device_lines s = flat_map (λ d. line_of (codes "device" ∷ d.user ∷ spell_hex d.id ∷ [])) (ascending device_lt (filter (λ d. d.listed) s.devices))
+
+abbrev pub role_lines : State → List ℕ
+role_lines s = flat_map (λ r. line_of (codes "role" ∷ r ∷ [])) s.roles
+
+-- while no key line is read, each live scope but the devices is without a key
+abbrev pub debt_lines : State → List ℕ
+debt_lines s =
+    if is_none s.title then [] else
+    line_of (codes "debt" ∷ codes "none" ∷ codes "team" ∷ [])
+    ++ flat_map (λ r. line_of (codes "debt" ∷ codes "none" ∷ (codes "role:" ++ r) ∷ [])) s.roles
+    ++ flat_map (λ m. line_of (codes "debt" ∷ codes "none" ∷ (codes "user:" ++ m.user) ∷ [])) s.members
+
+abbrev pub state_lines : State → List ℕ
+state_lines s = member_lines s ++ device_lines s ++ role_lines s ++ debt_lines s
+
+abbrev pub show_text : Name → List Link → List ℕ
+show_text t links =
+    let s = team team_rules links in
+    line_of (codes "team" ∷ spell_hex t ∷ [])
+    ++ option_map_or (λ title. line_of (codes "title" ∷ title ∷ [])) s.title []
+    ++ line_of (codes "links" ∷ spell_decimal (length links) ∷ codes "waiting" ∷ spell_decimal (length links - length (order_of links))
+    ∷ codes "counting" ∷ spell_decimal (count_counting links) ∷ [])
+    ++ state_lines s
+    ++ line_of (codes "end" ∷ [])

@@ -1,0 +1,13 @@
+pub mod Agree
+pub mod Ancestors
+pub mod Closures
+pub mod ConnectedLaw
+pub mod Distinct
+pub mod OrderLeast
+pub mod OrderSame
+pub mod Parts
+pub mod Pasts
+pub mod SameSet
+pub mod Sorted
+pub mod Standing
+pub mod Stays

@@ -1,0 +1,16 @@
+pub mod Ancestry
+pub mod AncestryLaws
+pub mod Closure
+pub mod Connected
+pub mod Examples
+pub mod Members
+pub mod Names
+pub mod Order
+pub mod OrderLaws
+pub mod PartLaws
+pub mod PastLaws
+pub mod Places
+pub mod SameLaws
+pub mod Settlement
+pub mod SettlementLaws
+pub mod SortedLaws
