@@ -1,0 +1,4 @@
+pub mod Ascending
+pub mod Lines
+pub mod Parents
+pub mod Texts

@@ -1,0 +1,171 @@
+-- The text of a link, line by line, and that it is the text of one link.
+use Rattle.std.proofs.Common.{◌≡◌, ℕ, ◌<◌, ◌≤◌, ◌^◌, ◌==◌, Bool, true, false, ◌&&◌, List, [], ◌∷◌, ◌++◌, Option, None, Some, length, codes, flat_map, IsTrue, refl, sym, ap, ◌∙◌, subst, true≢false, append_assoc, append-nil, arith}
+use Rattle.std.proofs.lemmas.Bool.{eqb-true}
+use Rattle.std.proofs.lemmas.List.{append_cancel_left}
+use Rattle.sha2.specs.Sha256.{sha256}
+use Rattle.team_sets.specs.Names.{Name}
+use Rattle.tg_text.specs.Spelling.{has_byte, has_newline, spell_base64, spell_decimal, spell_hex}
+use Rattle.tg_text.proofs.FieldLaws.{base64_lacks, base64_once, decimal_lacks, decimal_once, hex_lacks, hex_once, name_lacks}
+use Rattle.acts.specs.ActText.{spell_act}
+use Rattle.acts.proofs.Cuts.{act_lacks, act_once}
+use Rattle.team_model.specs.declared.terms.Link.{Link}
+use Rattle.link_text.specs.LinkText.{first_line, team_line, team_field, prev_line, user_line, key_line, time_line, act_line, new_line, box_line, sign_line, text, IsTeam, HasFields, KeepsRules, IsWellFormed, Reads}
+use Rattle.tg_text.specs.Spelling.{line_of}
+use Rattle.tg_text.specs.declared.keys.KeyId.{KeyId}
+use Rattle.tg_text.specs.declared.keys.BoxLine.{BoxLine}
+use Rattle.acts.specs.declared.entry.Act.{Act}
+use Rattle.link_text.specs.Takes.{HasNoParent}
+use Rattle.link_text.proofs.Lines.{spelled_once}
+use Rattle.link_text.proofs.Parents.{parents_once}
+
+-- the text from a line on
+abbrev pub from_sign : Link → List ℕ
+from_sign l = sign_line l.signature
+
+abbrev pub from_act : Link → List ℕ
+from_act l = act_line l.entry.act ++ from_sign l
+
+abbrev pub from_time : Link → List ℕ
+from_time l = time_line l.entry.time ++ from_act l
+
+abbrev pub from_key : Link → List ℕ
+from_key l = key_line l.key ++ from_time l
+
+abbrev pub from_user : Link → List ℕ
+from_user l = user_line l.entry.user ++ from_key l
+
+abbrev pub from_prev : Link → List ℕ
+from_prev l = flat_map prev_line l.prev ++ from_user l
+
+abbrev pub from_team : Link → List ℕ
+from_team l = team_line l.team ++ from_prev l
+
+parts : (a b c d e f g n x s : List ℕ) → n ≡ [] → x ≡ [] → (a ++ b ++ c ++ d ++ e ++ f ++ g ++ n ++ x) ++ s ≡ a ++ (b ++ (c ++ (d ++ (e ++ (f ++ (g ++ s))))))
+parts a b c d e f g n x s no_news no_boxes = rw (no_news, no_boxes) (simp (append_assoc, append-nil))
+
+pub text_parts : (l : Link) → (l.entry.lines.news ≡ []) × (l.entry.lines.boxes ≡ []) → text l ≡ line_of first_line ++ from_team l
+text_parts l none =
+    parts (line_of first_line) (team_line l.team) (flat_map prev_line l.prev) (user_line l.entry.user) (key_line l.key) (time_line l.entry.time) (act_line l.entry.act)
+    (flat_map new_line l.entry.lines.news) (flat_map box_line l.entry.lines.boxes) (sign_line l.signature) (ap (flat_map new_line) none.0) (ap (flat_map box_line) none.1)
+
+begins : List ℕ → List ℕ → Bool
+begins [] text = true
+begins (c ∷ front) [] = false
+begins (c ∷ front) (x ∷ text) = (x == c) && begins front text
+
+-- the lines of parents end where that of the user begins
+pub user_first : (l : Link) → HasNoParent (from_user l)
+unfolding begins
+user_first l field more e = true≢false (ap (begins (codes "user ")) e)
+
+pub team_lacks : (o : Option Name) → IsTeam o → has_newline (team_field o) ≡ false
+team_lacks None is = refl
+team_lacks (Some t) is = hex_lacks 10 t refl
+
+hyphen : (t : Name) → codes "-" ≡ spell_hex t → ⊥
+hyphen t e = true≢false (ap (has_byte 45) e ∙ hex_lacks 45 t refl)
+
+pub team_once : (o p : Option Name) → IsTeam o → IsTeam p → team_field o ≡ team_field p → o ≡ p
+team_once None None is other e = refl
+team_once None (Some t) is other e = absurd (hyphen t e)
+team_once (Some t) None is other e = absurd (hyphen t (sym e))
+team_once (Some t) (Some u) is other e = ap Some (hex_once t u is.bytes other.bytes e)
+
+pub no_hyphen : (o : Option Name) → codes "-" ≡ team_field o → o ≡ None
+no_hyphen None e = refl
+no_hyphen (Some t) e = absurd (hyphen t e)
+
+pub fields_of : {bytes : List ℕ} {l : Link} → Reads bytes l → HasFields bytes l
+fields_of r = let w = r.well_formed in record {
+  is_text = r.is_text;
+  team = w.team;
+  parents = w.parents;
+  user = w.user;
+  key = w.key;
+  device = w.device;
+  time = w.time;
+  act = w.act;
+  no_key_lines = w.no_key_lines;
+  signature_bytes = w.signature_bytes;
+  name = r.name;
+}
+
+pub rules_of : {bytes : List ℕ} {l : Link} → Reads bytes l → KeepsRules l
+rules_of r = let w = r.well_formed in record {
+  few_parents = w.few_parents;
+  parents_ascend = w.parents_ascend;
+  root_without_parents = w.root_without_parents;
+  root_founds = w.root_founds;
+}
+
+pub reads_of : {bytes : List ℕ} {l : Link} → HasFields bytes l → KeepsRules l → length bytes ≤ 1048576 → Reads bytes l
+reads_of f k short = record {
+  is_text = f.is_text;
+  name = f.name;
+  well_formed = record {
+    team = f.team;
+    parents = f.parents;
+    few_parents = k.few_parents;
+    parents_ascend = k.parents_ascend;
+    root_without_parents = k.root_without_parents;
+    root_founds = k.root_founds;
+    user = f.user;
+    key = f.key;
+    device = f.device;
+    time = f.time;
+    act = f.act;
+    no_key_lines = f.no_key_lines;
+    signature_bytes = f.signature_bytes;
+    fits = subst (λ (t : List ℕ). length t ≤ 1048576) f.is_text short;
+  };
+}
+
+abbrev pub link_of : Option Name → List Name → List ℕ → List ℕ → List ℕ → ℕ → Act → List KeyId → List BoxLine → List ℕ → List ℕ → Link
+link_of team prev key user device time act news boxes signature name = record {
+  team = team;
+  prev = prev;
+  key = key;
+  signature = signature;
+  name = name;
+  entry = record { user = user; device = device; time = time; act = act; lines = record { news = news; boxes = boxes } };
+}
+
+same_link : (l k : Link) → l.team ≡ k.team → l.prev ≡ k.prev → l.key ≡ k.key → l.entry.user ≡ k.entry.user → l.entry.device ≡ k.entry.device → l.entry.time ≡ k.entry.time
+    → l.entry.act ≡ k.entry.act → l.entry.lines.news ≡ k.entry.lines.news → l.entry.lines.boxes ≡ k.entry.lines.boxes → l.signature ≡ k.signature → l.name ≡ k.name → l ≡ k
+same_link l k team prev key user device time act news boxes signature name =
+    let same : link_of l.team l.prev l.key l.entry.user l.entry.device l.entry.time l.entry.act l.entry.lines.news l.entry.lines.boxes l.signature l.name
+    ≡ link_of k.team k.prev k.key k.entry.user k.entry.device k.entry.time k.entry.act k.entry.lines.news k.entry.lines.boxes k.signature k.name = cc in
+    same
+
+pub link_once : (bytes : List ℕ) (l k : Link) → HasFields bytes l → HasFields bytes k → l ≡ k
+link_once bytes l k f g =
+    let team = spelled_once (codes "team ") (team_field l.team) (team_field k.team) (from_prev l) (from_prev k) (team_lacks l.team f.team) (team_lacks k.team g.team)
+    (append_cancel_left (line_of first_line) _ _ (sym (text_parts l f.no_key_lines) ∙ sym f.is_text ∙ g.is_text ∙ text_parts k g.no_key_lines)) in
+    let prev = parents_once l.prev k.prev (from_user l) (from_user k) f.parents g.parents (user_first l) (user_first k) team.1 in
+    let user = spelled_once (codes "user ") l.entry.user k.entry.user (from_key l) (from_key k) (name_lacks 10 l.entry.user refl f.user) (name_lacks 10 k.entry.user refl g.user) prev.1 in
+    let key = spelled_once (codes "key ") (spell_base64 l.key) (spell_base64 k.key) (from_time l) (from_time k) (base64_lacks 10 l.key refl refl) (base64_lacks 10 k.key refl refl) user.1 in
+    let time = spelled_once (codes "time ") (spell_decimal l.entry.time) (spell_decimal k.entry.time) (from_act l) (from_act k)
+    (decimal_lacks 10 l.entry.time refl f.time) (decimal_lacks 10 k.entry.time refl g.time) key.1 in
+    let act = spelled_once (codes "act ") (spell_act l.entry.act) (spell_act k.entry.act) (from_sign l) (from_sign k) (act_lacks l.entry.act f.act) (act_lacks k.entry.act g.act) time.1 in
+    let sign = spelled_once (codes "sign ") (spell_base64 l.signature) (spell_base64 k.signature) [] [] (base64_lacks 10 l.signature refl refl) (base64_lacks 10 k.signature refl refl)
+    (ap (λ (t : List ℕ). t ++ []) act.1) in
+    let same_team : l.team ≡ k.team = team_once l.team k.team f.team g.team team.0 in
+    let same_prev : l.prev ≡ k.prev = prev.0 in
+    let same_user : l.entry.user ≡ k.entry.user = user.0 in
+    let same_key : l.key ≡ k.key = base64_once l.key k.key f.key.bytes g.key.bytes key.0 in
+    let same_device : l.entry.device ≡ k.entry.device = f.device ∙ ap sha256 same_key ∙ sym g.device in
+    let same_time : l.entry.time ≡ k.entry.time = decimal_once l.entry.time k.entry.time f.time g.time time.0 in
+    let same_act : l.entry.act ≡ k.entry.act = act_once l.entry.act k.entry.act f.act g.act act.0 in
+    let same_news : l.entry.lines.news ≡ k.entry.lines.news = f.no_key_lines.0 ∙ sym g.no_key_lines.0 in
+    let same_boxes : l.entry.lines.boxes ≡ k.entry.lines.boxes = f.no_key_lines.1 ∙ sym g.no_key_lines.1 in
+    let same_signature : l.signature ≡ k.signature = base64_once l.signature k.signature f.signature_bytes g.signature_bytes sign.0 in
+    let same_name : l.name ≡ k.name = f.name ∙ sym g.name in
+    same_link l k same_team same_prev same_key same_user same_device same_time same_act same_news same_boxes same_signature same_name
+
+pub joined : (bytes a t p u k m c s l0 l1 l2 l3 l4 l5 l6 l7 : List ℕ) → bytes ≡ a ++ l0 → l0 ≡ t ++ l1 → l1 ≡ p ++ l2 → l2 ≡ u ++ l3 → l3 ≡ k ++ l4 → l4 ≡ m ++ l5 → l5 ≡ c ++ l6 → l6 ≡ s ++ l7 → l7 ≡ []
+    → bytes ≡ a ++ (t ++ (p ++ (u ++ (k ++ (m ++ (c ++ s))))))
+joined bytes a t p u k m c s l0 l1 l2 l3 l4 l5 l6 l7 e0 e1 e2 e3 e4 e5 e6 e7 e8 = rw (e0, e1, e2, e3, e4, e5, e6, e7, e8, append-nil) refl
+
+pub is_nil : (bytes : List ℕ) → (length bytes == 0) ≡ true → bytes ≡ []
+is_nil [] e = refl
+is_nil (b ∷ bytes) e = absurd (let h : length (b ∷ bytes) ≡ 0 = eqb-true (length (b ∷ bytes)) 0 e in omega (arith, h))

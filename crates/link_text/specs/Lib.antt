@@ -1,0 +1,4 @@
+pub mod Faults
+pub mod LinkText
+pub mod Takes
+pub mod TeamFile

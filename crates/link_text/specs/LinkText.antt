@@ -1,0 +1,122 @@
+-- The text of a link, which links are well-formed, and of which team a link is.
+use Rattle.std.specs.List.{AllByRecursion}
+use Rattle.std.specs.Prelude.{◌≡◌, ◌<◌, ◌^◌, ℕ, ◌≤◌, ◌↔◌, List, [], ◌∷◌, ◌++◌, length, codes, flat_map, Option, IsTrue, IsNone, MatchOption}
+use Rattle.std.specs.Option.{option_map_or}
+use Rattle.sha2.specs.Sha256.{sha256}
+use Rattle.team_sets.specs.Names.{Name, name_lt}
+use Rattle.tg_text.specs.Spelling.{spell_decimal, spell_hex, spell_base64, spell_key_id, line_of, is_user_name, AreBytes, IsHash, IsPublicKey}
+use Rattle.tg_text.specs.declared.keys.KeyId.{KeyId}
+use Rattle.tg_text.specs.declared.keys.BoxLine.{BoxLine}
+use Rattle.acts.specs.ActText.{act_words, IsActInRange, IsFound}
+use Rattle.acts.specs.declared.entry.Act.{Act}
+use Rattle.team_model.specs.declared.terms.Link.{Link}
+
+-- the lines of a link, each a list of fields
+abbrev pub first_line : List (List ℕ)
+first_line = codes "team-link" ∷ codes "1" ∷ []
+
+-- the team's name, or `-` where a link names none
+abbrev pub team_field : Option Name → List ℕ
+team_field o = option_map_or (λ t. spell_hex t) o (codes "-")
+
+abbrev pub team_line : Option Name → List ℕ
+team_line o = line_of (codes "team" ∷ team_field o ∷ [])
+
+abbrev pub prev_line : Name → List ℕ
+prev_line p = line_of (codes "prev" ∷ spell_hex p ∷ [])
+
+abbrev pub user_line : Name → List ℕ
+user_line u = line_of (codes "user" ∷ u ∷ [])
+
+abbrev pub key_line : List ℕ → List ℕ
+key_line k = line_of (codes "key" ∷ spell_base64 k ∷ [])
+
+abbrev pub time_line : ℕ → List ℕ
+time_line n = line_of (codes "time" ∷ spell_decimal n ∷ [])
+
+abbrev pub act_line : Act → List ℕ
+act_line a = line_of (codes "act" ∷ act_words a)
+
+abbrev pub new_line : KeyId → List ℕ
+new_line k = line_of (codes "new" ∷ spell_key_id k ∷ [])
+
+abbrev pub box_line : BoxLine → List ℕ
+box_line b = line_of (codes "box" ∷ spell_key_id b.to ∷ spell_key_id b.of ∷ spell_base64 b.bytes ∷ [])
+
+abbrev pub sign_line : List ℕ → List ℕ
+sign_line s = line_of (codes "sign" ∷ spell_base64 s ∷ [])
+
+-- all before the line of the signature: what is signed
+abbrev pub body : Link → List ℕ
+body l =
+    line_of first_line ++ team_line l.team ++ flat_map prev_line l.prev ++ user_line l.entry.user ++ key_line l.key
+    ++ time_line l.entry.time ++ act_line l.entry.act ++ flat_map new_line l.entry.lines.news ++ flat_map box_line l.entry.lines.boxes
+
+abbrev pub text : Link → List ℕ
+text l = body l ++ sign_line l.signature
+
+-- each name is before the next
+abbrev pub Ascends : List Name → Type 0
+Ascends [] = Unit {0}
+Ascends (n ∷ []) = Unit {0}
+Ascends (n ∷ m ∷ ms) = IsTrue (name_lt n m) × Ascends (m ∷ ms)
+
+abbrev pub IsTeam : Option Name → Type 0
+IsTeam o = MatchOption o (Unit {0}) IsHash
+
+-- a link whose fields are in their ranges. The ranges of bytes and numbers stand here too, since a link of a law is any value
+pub record IsWellFormed (l : Link) : Type 0 where
+  pub team : IsTeam l.team
+  pub parents : AllByRecursion IsHash l.prev
+  pub few_parents : length l.prev ≤ 64
+  pub parents_ascend : Ascends l.prev
+  pub root_without_parents : (l.prev ≡ []) ↔ IsNone l.team
+  pub root_founds : (l.prev ≡ []) ↔ IsFound l.entry.act
+  pub user : IsTrue (is_user_name l.entry.user)
+  pub key : IsPublicKey l.key
+  pub device : l.entry.device ≡ sha256 l.key
+  pub time : l.entry.time < 2 ^ 64
+  pub act : IsActInRange l.entry.act
+  pub no_key_lines : (l.entry.lines.news ≡ []) × (l.entry.lines.boxes ≡ [])
+  pub signature_bytes : AreBytes l.signature
+  pub fits : length (text l) ≤ 1048576
+
+-- each field of the link stands in the bytes, whatever the rules on fields together say of them
+pub record HasFields (bytes : List ℕ) (l : Link) : Type 0 where
+  pub is_text : bytes ≡ text l
+  pub team : IsTeam l.team
+  pub parents : AllByRecursion IsHash l.prev
+  pub user : IsTrue (is_user_name l.entry.user)
+  pub key : IsPublicKey l.key
+  pub device : l.entry.device ≡ sha256 l.key
+  pub time : l.entry.time < 2 ^ 64
+  pub act : IsActInRange l.entry.act
+  pub no_key_lines : (l.entry.lines.news ≡ []) × (l.entry.lines.boxes ≡ [])
+  pub signature_bytes : AreBytes l.signature
+  pub name : l.name ≡ sha256 bytes
+
+-- the rules on fields together
+pub record KeepsRules (l : Link) : Type 0 where
+  pub few_parents : length l.prev ≤ 64
+  pub parents_ascend : Ascends l.prev
+  pub root_without_parents : (l.prev ≡ []) ↔ IsNone l.team
+  pub root_founds : (l.prev ≡ []) ↔ IsFound l.entry.act
+
+-- the bytes are the text of the link, and its name is their SHA-256
+pub record Reads (bytes : List ℕ) (l : Link) : Type 0 where
+  pub is_text : bytes ≡ text l
+  pub well_formed : IsWellFormed l
+  pub name : l.name ≡ sha256 bytes
+
+-- the link is of the team: it names it, or it is the root whose name it is
+abbrev pub IsOfTeam : Name → Link → Type 0
+IsOfTeam t l = MatchOption l.team (l.name ≡ t) (λ named. named ≡ t)
+
+-- the bytes are the text of a link of the team
+pub record IsValid (t : Name) (bytes : List ℕ) (l : Link) : Type 0 where
+  pub reads : Reads bytes l
+  pub of_team : IsOfTeam t l
+
+-- a text has one link: each well-formed link has a spelling of its own
+abbrev pub LinkIsSpelledOnce : Type 0
+LinkIsSpelledOnce = (bytes : List ℕ) (l k : Link) → Reads bytes l → Reads bytes k → l ≡ k

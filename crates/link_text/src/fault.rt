@@ -1,0 +1,45 @@
+ghost use Rattle.std.specs.Prelude.{◌≡◌};
+ghost use Rattle.link_text.specs.Faults.{as_text_fault};
+ghost use Rattle.link_text.specs.declared.fault.LineFault.TheVariants.{Memory as no_memory};
+
+use tg_text::Memory;
+use thiserror::Error;
+
+/// Why a text isn't read as a link.
+#[derive(Clone, Copy, Debug, PartialEq, Eq, Error)]
+pub enum TextFault {
+    /// More than 1,048,576 bytes.
+    #[error("the text is too long")]
+    TooLong,
+    /// No link has this text.
+    #[error("the text is no link's")]
+    BadText,
+    #[error("out of memory")]
+    Memory,
+}
+
+// Why the lines of a text that isn't too long aren't read.
+#[derive(Clone, Copy, Debug, PartialEq, Eq)]
+pub(crate) enum LineFault {
+    BadText,
+    Memory,
+}
+
+impl From<Memory> for LineFault {
+    ghost from_gives = { λ _ e. e ≡ no_memory };
+
+    fn from(_: Memory) -> Self {
+        LineFault::Memory
+    }
+}
+
+impl From<LineFault> for TextFault {
+    ghost from_gives = { λ fault e. e ≡ as_text_fault fault };
+
+    fn from(fault: LineFault) -> Self {
+        match fault {
+            LineFault::BadText => TextFault::BadText,
+            LineFault::Memory => TextFault::Memory,
+        }
+    }
+}
