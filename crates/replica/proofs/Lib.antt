@@ -1,0 +1,9 @@
+pub mod Faults
+pub mod HasName
+pub mod Lawful
+pub mod NextRow
+pub mod Picks
+pub mod Places
+pub mod Rows
+pub mod Sets
+pub mod Waits
