@@ -1,0 +1,4 @@
+pub mod KeyLaws
+pub mod KindLaws
+pub mod OneLine
+pub mod Signings

@@ -1,0 +1,3 @@
+pub mod KeyText
+pub mod Signing
+pub mod Takes

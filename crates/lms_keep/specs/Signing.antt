@@ -1,0 +1,56 @@
+-- What a call of `sign_next` answers, and what it leaves of files that tell their contents.
+use Rattle.std.specs.Prelude.{◌≡◌, ◌≢◌, ◌<◌, ◌⊎◌, ◌+◌, ℕ, List, Option, Some, None, Result, Ok, Err}
+use Rattle.std.specs.Option.{option_map_or}
+use Rattle.std.specs.FinMap as map
+use Rattle.tg_outside.specs.Contents.{FileMap}
+use Rattle.lms_ots.specs.Kinds.{ots_kind}
+use Rattle.lms_ots.specs.declared.kind.OtsKind.TheVariants.{W1}
+use Rattle.lms_tree.specs.LmsKinds.{lms_kind}
+use Rattle.lms_tree.specs.Signatures.{public_key, signature_of}
+use Rattle.lms_tree.specs.declared.lms_kind.LmsKind.TheVariants.{H5}
+use Rattle.lms_tree.specs.declared.tree_key.TreeKey.{TreeKey}
+use Rattle.lms_keep.specs.KeyText.{IsKeyFile, IsKeyState, key_text, leaves}
+use Rattle.lms_keep.specs.declared.key_state.KeyState.{KeyState}
+use Rattle.lms_keep.specs.declared.signing.Signed.{Signed}
+use Rattle.lms_keep.specs.declared.fault.SignFault.{SignFault}
+use Rattle.lms_keep.specs.declared.fault.SignFault.TheVariants.{ReadFault, NoFile, BadKeyFile, Spent, Memory, WriteFault}
+
+-- what the tree of a key is made from; a key in its ranges has both kinds
+abbrev pub tree_key : KeyState → TreeKey
+tree_key s = record {
+  lms = option_map_or (λ kind. kind) (lms_kind s.lms) H5;
+  ots = option_map_or (λ kind. kind) (ots_kind s.ots) W1;
+  id = s.id;
+  seed = s.seed;
+}
+
+-- the key with the leaf after
+abbrev pub advanced : KeyState → KeyState
+advanced s = record s { next = s.next + 1 }
+
+-- the files with the leaf after in the key file
+abbrev pub moved : FileMap → List ℕ → KeyState → FileMap
+moved m name s = map.insert m name (key_text (advanced s))
+
+-- the signature of a leaf over a message, with its key
+abbrev pub signed_by : TreeKey → ℕ → List ℕ → Signed
+signed_by key leaf message = record { key = public_key key; leaf = leaf; signature = signature_of key leaf message }
+
+-- By the bytes of the file, where it is there: what `new` holds of the files `m` after the answer.
+abbrev pub SignsAs : FileMap → Option (List ℕ) → List ℕ → List ℕ → Option FileMap → Result Signed SignFault → Type 0
+SignsAs m (Some bytes) name message new (Ok signed) =
+    (s : KeyState) × IsKeyFile bytes s × (s.next < leaves s.lms) × (new ≡ Some (moved m name s)) × (signed ≡ signed_by (tree_key s) s.next message)
+SignsAs m (Some bytes) name message new (Err Spent) = (s : KeyState) × IsKeyFile bytes s × (s.next ≡ leaves s.lms) × (new ≡ Some m)
+SignsAs m (Some bytes) name message new (Err WriteFault) =
+    (s : KeyState) × IsKeyFile bytes s × (s.next < leaves s.lms) × ((new ≡ Some m) ⊎ (new ≡ Some (moved m name s)))
+SignsAs m (Some bytes) name message new (Err BadKeyFile) = ((s : KeyState) → IsKeyState s → bytes ≢ key_text s) × (new ≡ Some m)
+SignsAs m (Some bytes) name message new (Err ReadFault) = new ≡ Some m
+SignsAs m (Some bytes) name message new (Err Memory) = new ≡ Some m
+SignsAs m (Some bytes) name message new (Err NoFile) = ⊥
+SignsAs m None name message new (Err NoFile) = new ≡ Some m
+SignsAs m None name message new (Err ReadFault) = new ≡ Some m
+SignsAs m None name message new (Err Memory) = new ≡ Some m
+SignsAs m None name message new (Err Spent) = ⊥
+SignsAs m None name message new (Err WriteFault) = ⊥
+SignsAs m None name message new (Err BadKeyFile) = ⊥
+SignsAs m None name message new (Ok signed) = ⊥
