@@ -1,0 +1,10 @@
+-- The ordered list of a set: strictly ascending, with the members of a list that may be in any order.
+use Rattle.std.specs.Prelude.{◌≡◌, List}
+use Rattle.std.specs.List.Sorted.{IsStrictlySortedBy}
+use Rattle.std.specs.Ordering.{eq_by_cmp}
+use Rattle.std.specs.declared.cmp.Ordering.{Ordering}
+use Rattle.team_sets.specs.Closure.{has}
+
+pub record IsListOf {A : Type 0} (cmp : A → A → Ordering) (members list : List A) : Type 0 where
+  pub ascends : IsStrictlySortedBy cmp list
+  pub exact : (x : A) → has (eq_by_cmp cmp) list x ≡ has (eq_by_cmp cmp) members x

@@ -1,0 +1,10 @@
+-- What a scope meets in a number of steps, each along an allowed arrow. A device needs no more than four: to its user, to the
+-- role `admin`, to another role, and to the team.
+use Rattle.std.specs.Prelude.{ℕ, zero, suc, Bool, ◌&&◌, ◌||◌}
+use Rattle.std.specs.List.{list_any}
+use Rattle.tg_text.specs.declared.keys.Scope.{Scope}
+use Rattle.key_reach.specs.Keys.{Table, same_scope}
+
+abbrev pub met : Table → ℕ → Scope → Scope → Bool
+met t zero from to = same_scope from to
+met t (suc n) from to = same_scope from to || list_any (λ m. t.allowed from m && met t n m to) t.scopes

@@ -1,0 +1,104 @@
+ghost use Rattle.std.specs.Prelude.{◌≡◌, not, ◌&&◌, ◌++◌, map, filter, IfOk};
+ghost use Rattle.std.specs.List.Sorted.{IsStrictlySortedBy};
+ghost use Rattle.std.specs.Ordering.{eq_by_cmp};
+ghost use Rattle.team_sets.specs.Closure.{leads_out};
+ghost use Rattle.tg_text.specs.Order.{key_cmp};
+ghost use Rattle.key_reach.specs.Lists.{IsListOf};
+ghost use Rattle.key_reach.specs.Keys as words;
+
+use crate::lists::{is_known, ordered_keys};
+use crate::table::KeyTable;
+use std::alloc::Global;
+use tg_text::{BoxLine, KeyId, Memory, Scope};
+
+/// The keys that these keys reach, themselves included, in order: whoever holds their secrets can open them by the boxes.
+pub fn reach(alloc: Global, boxes: &[BoxLine], from: &[KeyId]) -> Result<Vec<KeyId>, Memory>
+    ensures { IfOk result (λ keys. IsListOf key_cmp (words.reach boxes.now from.now) keys.items) }
+{
+    let reached = follow(alloc, boxes, from)?;
+    ordered_keys(alloc, reached.as_slice())
+}
+
+/// The keys that someone may have who is not to have them, in order.
+pub fn tainted<V: KeyTable>(alloc: Global, view: &V) -> Result<Vec<KeyId>, Memory>
+    ensures { IfOk result (λ keys. IsListOf key_cmp (words.tainted (V.table view.now)) keys.items) }
+{
+    let leaked = leaked(alloc, view)?;
+    reach(alloc, view.boxes(), leaked.as_slice())
+}
+
+// The keys that these reach, pass by pass: where no box leads to a further key, all are found.
+fn follow(alloc: Global, boxes: &[BoxLine], from: &[KeyId]) -> Result<Vec<KeyId>, Memory>
+    ensures { IfOk result (λ keys. keys.items ≡ words.reach boxes.now from.now) }
+{
+    let mut reached = Vec::from_slice(alloc, from)?;
+    for _ in 0..boxes.len() {
+        let further = further_keys(alloc, boxes, reached.as_slice())?;
+        if further.is_empty() {
+            return Ok(reached);
+        }
+        reached.extend_from_slice(further.as_slice())?;
+    }
+    Ok(reached)
+}
+
+// The contents of the boxes that lead from these keys to others.
+fn further_keys(alloc: Global, boxes: &[BoxLine], reached: &[KeyId]) -> Result<Vec<KeyId>, Memory>
+    ensures { IfOk result (λ keys. keys.items ≡ map (λ a. a.1) (filter (leads_out (eq_by_cmp key_cmp) reached.now) (words.box_arrows boxes.now))) }
+{
+    let known = ordered_keys(alloc, reached)?;
+    let mut further = Vec::new(alloc);
+    for line in boxes {
+        if leads_out(known.as_slice(), line) {
+            further.push(line.of)?;
+        }
+    }
+    Ok(further)
+}
+
+// Whether a box leads from keys of an ordered list to one that isn't in it.
+fn leads_out(known: &[KeyId], line: &BoxLine) -> bool
+    requires { IsStrictlySortedBy key_cmp known.now }
+    ensures { result ≡ leads_out (eq_by_cmp key_cmp) known.now (line.now.to, line.now.of) }
+{
+    is_known(known, &line.to) && !is_known(known, &line.of)
+}
+
+// The keys of devices that were listed and aren't, and the contents of boxes that nobody may seal so now.
+fn leaked<V: KeyTable>(alloc: Global, view: &V) -> Result<Vec<KeyId>, Memory>
+    ensures { IfOk result (λ keys. keys.items ≡ words.leaked (V.table view.now)) }
+{
+    let mut leaked = Vec::new(alloc);
+    push_unlisted(&mut leaked, view)?;
+    push_unlawful(&mut leaked, view)?;
+    Ok(leaked)
+}
+
+fn push_unlisted<V: KeyTable>(leaked: &mut Vec<KeyId>, view: &V) -> Result<(), Memory>
+    ensures { IfOk result (λ _. leaked.new.items ≡ leaked.old.items ++ filter (λ k. words.is_device k.scope && not (words.is_live (V.table view.now) k.scope)) (V.table view.now).currents) }
+{
+    for key in view.currents() {
+        if is_device(&key.scope) && !view.live(&key.scope) {
+            leaked.push(*key)?;
+        }
+    }
+    Ok(())
+}
+
+fn push_unlawful<V: KeyTable>(leaked: &mut Vec<KeyId>, view: &V) -> Result<(), Memory>
+    ensures { IfOk result (λ _. leaked.new.items ≡ leaked.old.items ++ map (λ b. b.of) (filter (λ b. not ((V.table view.now).allowed b.to.scope b.of.scope)) (V.table view.now).boxes)) }
+{
+    for line in view.boxes() {
+        if !view.allowed(&line.to.scope, &line.of.scope) {
+            leaked.push(line.of)?;
+        }
+    }
+    Ok(())
+}
+
+// Whether a scope is a device's.
+pub(crate) fn is_device(scope: &Scope) -> bool
+    ensures { result ≡ words.is_device scope.now }
+{
+    matches!(scope, Scope::Device(_))
+}
