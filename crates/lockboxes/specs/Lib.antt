@@ -1,0 +1,4 @@
+pub mod Boxes
+pub mod Keeping
+pub mod Symbolic
+pub mod SymbolicLaws

@@ -1,0 +1,16 @@
+//! Secrets that are sealed to a public key, and the keeper that the product has today, which hides nothing.
+//!
+//! `specs/Boxes.antt` says what a box is, `specs/Symbolic.antt` how the symbolic keeper seals and opens, and
+//! `specs/Keeping.antt` which keys a device opens. Whoever plans boxes or opens keys stands on the trait alone.
+#![tactic(auto)]
+
+mod laws;
+mod sealer;
+mod symbolic;
+
+pub use laws::{sealed_secrets_are_opened, symbolic_boxes_hold_their_secret};
+pub use sealer::Sealer;
+pub use symbolic::SymbolicKeeper;
+
+#[cfg(test)]
+mod tests;
