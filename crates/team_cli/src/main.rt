@@ -1,0 +1,47 @@
+//! The program: it reads the words of the command line, and prints the team of the links in a file.
+//!
+//! `run` is the top call, over any files and any sink. `specs/Words.antt` says what words mean, `specs/Show.antt` what `show`
+//! does, and `specs/Running.antt` what `run` promises of both. `main` hands in the words and the real objects, and ends with its status.
+#![tactic(auto)]
+
+mod command;
+#[cfg(test)]
+mod histories;
+mod run;
+mod show;
+#[cfg(test)]
+mod tests;
+
+use run::run;
+use std::io::ErrorKind;
+use std::process::ExitCode;
+use std::{env, io};
+use tg_outside::{Output, RealFiles, Silent, Steps};
+
+// The words after the program's name. Where one isn't UTF-8 there are none, which is no command.
+fn words_given(rt: &HostRuntime) -> Result<Vec<String>, ExitCode> {
+    let mut words = Vec::new(rt.alloc());
+    match env::args(rt) {
+        Ok(args) => {
+            for word in args.skip(1) {
+                if words.push(word).is_err() {
+                    return Err(ExitCode::from(6));
+                }
+            }
+            Ok(words)
+        }
+        Err(error) if error.kind() == ErrorKind::OutOfMemory => Err(ExitCode::from(6)),
+        Err(_) => Ok(words),
+    }
+}
+
+fn main(rt: HostRuntime) -> ExitCode {
+    let words = match words_given(&rt) {
+        Ok(words) => words,
+        Err(status) => return status,
+    };
+    let mut files = RealFiles::new(&rt);
+    let mut out = Output::new(io::writer(&rt));
+    let mut steps = Steps::new(Silent);
+    ExitCode::from(run(rt.alloc(), &words, &mut files, &mut out, &mut steps))
+}

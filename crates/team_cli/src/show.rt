@@ -1,0 +1,108 @@
+ghost use Rattle.std.specs.Prelude.{◌≡◌, ◌≢◌, ◌<◌, ◌≤◌, ◌⊎◌, List, length, ℕ, Option, Err, IfOk, IfSome, codes};
+ghost use Rattle.std.specs.FinMap as fin;
+ghost use Rattle.std.specs.List.{AllByRecursion};
+ghost use Rattle.team_sets.specs.OrderLaws.{IsSet};
+ghost use Rattle.team_model.specs.Judging.{name_of};
+ghost use Rattle.team_model.specs.ShowText.{show_text};
+ghost use Rattle.link_text.specs.LinkText.{IsValid, text};
+ghost use Rattle.tg_outside.specs.Causes.{HasCauseOrMemory};
+ghost use Rattle.outcomes.specs.Seeing.{Seen, Counts};
+ghost use Rattle.outcomes.specs.Ending.{Prepares, IsCaused};
+ghost use Rattle.team_cli.specs.declared.command.Command.TheVariants.{Show};
+ghost use Rattle.team_cli.specs.Show.{Shows, ShowsFile, fault_line, show_outcome};
+ghost use Rattle.team_cli.specs.Running.{RunsCommand};
+
+use crate::command::Command;
+use outcomes::{Answer, conclude};
+use replica::Replica;
+use std::alloc::Global;
+use team_files::{FileFault, FileView, file_is_read_once, read_file};
+use team_model::{Link, text_is_of_set};
+use team_report::{show_is_of_view, show_text};
+use tg_outside::{Fault, Files, Sink, StepLedger, Steps};
+use tg_text::{Bytes, Items, LinkName, Memory, Word};
+
+// The text of `show` of the team file that the bytes are, `None` where they are none. There is one such text.
+fn shown(alloc: Global, bytes: &[u8]) -> Result<Option<Bytes>, Memory>
+    ensures is { IfOk result (λ found. Shows bytes.now found) }
+    ensures only { IfOk result (λ found. (shown : Option (List ℕ)) → Shows bytes.now shown → shown ≡ found) }
+{
+    file_is_read_once();
+    text_is_of_set();
+    show_file(alloc, bytes)
+}
+
+fn show_file(alloc: Global, bytes: &[u8]) -> Result<Option<Bytes>, Memory>
+    ensures { IfOk result (λ found. Shows bytes.now found) }
+{
+    match read_file(alloc, bytes) {
+        Ok(FileView { team, links }) => Ok(Some(show_links(alloc, team, links)?)),
+        Err(FileFault::BadFile) => Ok(None),
+        Err(FileFault::Memory) => Err(Memory),
+    }
+}
+
+// The text of `show` of a set of links of a team.
+fn show_links(alloc: Global, team: LinkName, links: Items<Link>) -> Result<Bytes, Memory>
+    requires valid { AllByRecursion (λ l. IsValid team (text l) l) links }
+    requires set { IsSet name_of links }
+    requires few { length links ≤ 16384 }
+    ensures { IfOk result (λ out. out ≡ show_text team links) }
+{
+    show_is_of_view();
+    let replica = Replica::with_links(alloc, team, links)?;
+    show_text(alloc, &team, replica.view())
+}
+
+// An answer that is a fault of a file.
+fn file_fault(alloc: Global, name: &str, word: &str) -> Result<Answer, Fault>
+    ensures told { IfOk result (λ answer. (answer.status ≡ 3) × (answer.text ≡ fault_line name.now word.now)) }
+    ensures memory { result ≢ Err Fault.Failed }
+{
+    let line = format!(in alloc; "fault {name} {word}\n")?;
+    Ok(Answer::say(alloc, 3, line.as_bytes())?)
+}
+
+// All of `show` but the printing.
+fn answer_show<F: Files>(alloc: Global, files: &mut F, file: &str) -> Result<Answer, Fault>
+    ensures prepares { (seen : Seen) (shown : Option (List ℕ)) → IfSome (F.files files.old) (λ m. ShowsFile (fin.get m file.now) shown)
+        → Prepares (show_outcome file.now shown) (record seen { files = F.files files.old }) (record seen { files = F.files files.new }) result }
+    ensures shows { IfOk result (λ _. IfSome (F.files files.old) (λ m. (shown : Option (List ℕ)) × ShowsFile (fin.get m file.now) shown)) }
+    ensures same { F.files files.new ≡ F.files files.old }
+    ensures cause { HasCauseOrMemory (F.faults files.old) (F.faults files.new) result }
+    ensures status { IfOk result (λ answer. (answer.status ≡ 0) ⊎ (answer.status ≡ 3)) }
+{
+    let Some(bytes) = files.read(alloc, file)? else {
+        return file_fault(alloc, file, "NoFile");
+    };
+    match shown(alloc, bytes.as_slice())? {
+        Some(text) => Ok(Answer { status: 0, text }),
+        None => file_fault(alloc, file, "BadFile"),
+    }
+}
+
+fn file_shown(command: &Command) -> &Word
+    ensures { command.now ≡ Show result.now }
+{
+    match command {
+        Command::Show { file } => file,
+    }
+}
+
+/// Prints the team of the links in a file.
+pub fn run_show<F: Files, O: Sink, L: StepLedger>(
+    alloc: Global,
+    command: &Command,
+    files: &mut F,
+    out: &mut O,
+    _steps: &mut Steps<L>,
+) -> u8
+    ensures runs { (seen : Seen) → RunsCommand command.now (record seen { files = F.files files.old; taken = O.taken out.old })
+        (record seen { files = F.files files.new; taken = O.taken out.new }) result }
+    ensures cause { (counts : Counts) → IsCaused (record counts { files = F.faults files.old; taken = O.faults out.old })
+        (record counts { files = F.faults files.new; taken = O.faults out.new }) result }
+    ensures status { result < 5 → (result ≡ 0) ⊎ (result ≡ 3) }
+{
+    let file = file_shown(command);
+    conclude(out, answer_show(alloc, files, file.as_str()))
+}
