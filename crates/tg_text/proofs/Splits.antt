@@ -1,5 +1,6 @@
 -- A text is cut at the first of a byte in one way.
-use Rattle.std.proofs.Common.{◌≡◌, ℕ, ◌==◌, Bool, true, false, ◌||◌, List, [], ◌∷◌, ◌++◌, refl, sym, ap, ◌∙◌, true≢false}
+use Rattle.std.proofs.Common.{◌≡◌, ℕ, ◌==◌, Bool, true, false, ◌&&◌, ◌||◌, nat_eq, List, [], ◌∷◌, ◌++◌, refl, sym, ap, ◌∙◌, true≢false}
+use Rattle.std.specs.Cmp.Lexicographic.{pointwise}
 use Rattle.std.proofs.lemmas.Bool.{eq-eqb}
 use Rattle.std.proofs.lemmas.List.Folds.{list_any-append}
 use Rattle.tg_text.specs.Spelling.{has_byte}
@@ -40,3 +41,13 @@ no_split c text a x none e = true≢false (sym (ap (has_byte c) e ∙ has_one c 
 -- the byte stands in neither of two texts, so not in both together
 pub lacks_append : (c : ℕ) (a b : List ℕ) → has_byte c a ≡ false → has_byte c b ≡ false → has_byte c (a ++ b) ≡ false
 lacks_append c a b ha hb = rw (list_any-append (λ x. x == c) a b, ha, hb) refl
+
+-- whether a text begins with another, to tell two words apart by computing
+unfoldable pub begins : List ℕ → List ℕ → Bool
+begins [] text = true
+begins (c ∷ front) [] = false
+begins (c ∷ front) (x ∷ text) = (x == c) && begins front text
+
+-- a text that was found to be another than b isn't b
+pub other_word : (a b : List ℕ) → pointwise nat_eq a b ≡ false → pointwise nat_eq b b ≡ true → a ≡ b → ⊥
+other_word a b different same e = true≢false (sym (ap (λ (w : List ℕ). pointwise nat_eq w b) e ∙ same) ∙ different)

@@ -74,11 +74,29 @@ spell_scope (Role r) = codes "role:" ++ r
 spell_scope (User u) = codes "user:" ++ u
 spell_scope (Device d) = codes "device:" ++ spell_hex d
 
+abbrev pub IsScope : Scope → Type 0
+IsScope Team = Unit {0}
+IsScope (Role r) = IsTrue (is_user_name r)
+IsScope (User u) = IsTrue (is_user_name u)
+IsScope (Device d) = IsHash d
+
 abbrev pub slash : List ℕ
 slash = codes "/"
 
 abbrev pub spell_key_id : KeyId → List ℕ
 spell_key_id k = spell_scope k.scope ++ slash ++ spell_decimal k.generation ++ slash ++ spell_hex k.public
+
+-- a device has one key, of generation 0
+abbrev pub last_generation : Scope → ℕ
+last_generation Team = 65534
+last_generation (Role r) = 65534
+last_generation (User u) = 65534
+last_generation (Device d) = 0
+
+pub record IsKeyId (k : KeyId) : Type 0 where
+  pub scope : IsScope k.scope
+  pub generation : k.generation ≤ last_generation k.scope
+  pub public : IsHash k.public
 
 -- fields with one space between them
 abbrev pub spaced : List (List ℕ) → List ℕ

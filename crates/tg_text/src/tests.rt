@@ -3,6 +3,8 @@ use std::test::Fail;
 
 const KEY: &str = "AAAABgAAAAMAAQIDBAUGBwgJCgsMDQ4PEBESExQVFhcYGRobHB0eHyAhIiMkJSYnKCkqKywtLi8=";
 
+const HASH: &str = "deb0e38ced1e41de6f92e70e80c418d2d356afaaa99e26f5939dbc7d3ef4772a";
+
 #[test]
 fn numbers_have_one_spelling(rt: HostRuntime) {
     assert_eq!(rt; read_decimal(b"0"), Some(0));
@@ -128,6 +130,83 @@ fn names_have_1_to_32_bytes(rt: HostRuntime) -> Result<(), Fail> {
         "é",
     ] {
         assert_eq!(rt; UserName::read(wrong.as_bytes()), None, "at {wrong}");
+    }
+    Ok(())
+}
+
+#[test]
+fn roles_are_named_as_users(rt: HostRuntime) -> Result<(), Fail> {
+    for name in ["editor", "9._-", "0123456789abcdefghijklmnopqrstuv"] {
+        let role = RoleName::read(name.as_bytes()).ok_or("no role")?;
+        assert_eq!(rt; role.as_slice(), name.as_bytes());
+    }
+    assert_eq!(rt; RoleName::read(b"admin"), Some(RoleName::admin()));
+    for wrong in ["", "0123456789abcdefghijklmnopqrstuvw", ".editor", "Editor"] {
+        assert_eq!(rt; RoleName::read(wrong.as_bytes()), None, "at {wrong}");
+    }
+    Ok(())
+}
+
+#[test]
+fn scopes_have_a_kind_and_a_name(rt: HostRuntime) -> Result<(), Fail> {
+    let editor = RoleName::read(b"editor").ok_or("no role")?;
+    let team = UserName::read(b"team").ok_or("no name")?;
+    assert_eq!(rt; Scope::read(b"team"), Some(Scope::Team));
+    assert_eq!(rt; Scope::read(b"role:editor"), Some(Scope::Role(editor)));
+    assert_eq!(rt; Scope::read(b"user:team"), Some(Scope::User(team)));
+    let device = format!(in rt.alloc(); "device:{HASH}")?;
+    let id = read_hex32(HASH.as_bytes()).ok_or("no hash")?;
+    assert_eq!(rt;
+        Scope::read(device.as_bytes()),
+        Some(Scope::Device(DeviceId(id)))
+    );
+    let short = format!(in rt.alloc(); "device:{HASH}0")?;
+    for wrong in [
+        "",
+        "team:",
+        "team ",
+        "Team",
+        "role",
+        "role:",
+        "role:.editor",
+        "role:a:b",
+        "user:Ann",
+        "device:",
+        "group:ann",
+        " user:ann",
+        short.as_str(),
+    ] {
+        assert_eq!(rt; Scope::read(wrong.as_bytes()), None, "at {wrong}");
+    }
+    Ok(())
+}
+
+#[test]
+fn key_ids_are_read_and_written(rt: HostRuntime) -> Result<(), Fail> {
+    for text in [
+        format!(in rt.alloc(); "team/0/{HASH}")?,
+        format!(in rt.alloc(); "role:admin/1/{HASH}")?,
+        format!(in rt.alloc(); "user:ann/65534/{HASH}")?,
+        format!(in rt.alloc(); "device:{HASH}/0/{HASH}")?,
+    ] {
+        let key = KeyId::read(text.as_bytes()).ok_or("no key id")?;
+        let mut out = Bytes::from_slice(rt.alloc(), b"key ")?;
+        write_key_id(&mut out, &key)?;
+        assert_eq!(rt; out.as_slice().split_at(4).1, text.as_bytes());
+    }
+    for wrong in [
+        format!(in rt.alloc(); "team/65535/{HASH}")?,
+        format!(in rt.alloc(); "device:{HASH}/1/{HASH}")?,
+        format!(in rt.alloc(); "team/01/{HASH}")?,
+        format!(in rt.alloc(); "team//{HASH}")?,
+        format!(in rt.alloc(); "team/{HASH}")?,
+        format!(in rt.alloc(); "team/0/{HASH}/")?,
+        format!(in rt.alloc(); "/0/{HASH}")?,
+        format!(in rt.alloc(); "role:/0/{HASH}")?,
+        format!(in rt.alloc(); "team/0/")?,
+        format!(in rt.alloc(); "team/4294967296/{HASH}")?,
+    ] {
+        assert_eq!(rt; KeyId::read(wrong.as_bytes()), None, "at {wrong}");
     }
     Ok(())
 }

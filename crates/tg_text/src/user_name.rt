@@ -69,6 +69,19 @@ impl RoleName {
         }
     }
 
+    /// The name that a text spells: the text itself. It takes no memory.
+    pub fn read(text: &[u8]) -> Option<RoleName>
+        ensures exact { IsSome result ↔ IsTrue (is_user_name text.now) }
+        ensures found { IfSome result (λ it. it ≡ text.now) }
+    {
+        if !is_user_name(text) {
+            return None;
+        }
+        Some(RoleName {
+            text: Text::new(text),
+        })
+    }
+
     /// The bytes of the name, which are ASCII.
     pub fn as_slice(&self) -> &[u8]
         ensures { result.now ≡ self.now }
