@@ -16,13 +16,13 @@ has_of_in [] n k = absurd k
 has_of_in (m ∷ ms) n (inl e) = or_left (same_name m n) (has_name ms n) ((bytes_decides m n).1 e)
 has_of_in (m ∷ ms) n (inr k) = or_right (same_name m n) (has_name ms n) (has_of_in ms n k)
 
-all_of_each : (p : Name → Bool) (ms : List Name) → ((m : Name) → IsIn m ms → p m ≡ true) → list_all p ms ≡ true
+pub all_of_each : (p : Name → Bool) (ms : List Name) → ((m : Name) → IsIn m ms → p m ≡ true) → list_all p ms ≡ true
 all_of_each p [] h = refl
 all_of_each p (m ∷ ms) h = rw (h m (inl refl)) (all_of_each p ms (λ n k. h n (inr k)))
 
 module _ {A : Type 0} (name : A → Name) (prev : A → List Name) (links : List A) where
   -- each name of the list is connected
-  all_connected : (list placed : List A) → ((n : Name) → has_name (names name placed) n ≡ true → IsConnected name prev links n) → AllByRecursion (λ x. IsIn x links) list
+  pub all_connected : (list placed : List A) → ((n : Name) → has_name (names name placed) n ≡ true → IsConnected name prev links n) → AllByRecursion (λ x. IsIn x links) list
       → ParentsFirst name prev placed list → (n : Name) → has_name (names name (placed ++ list)) n ≡ true → IsConnected name prev links n
   all_connected [] placed before of first n h = before n (rw append-nil at h)
   all_connected (x ∷ xs) placed before of first n h =
@@ -40,7 +40,7 @@ module _ {A : Type 0} (name : A → Name) (prev : A → List Name) (links : List
           go (inr e) = subst (λ z. IsConnected name prev links z) ((bytes_decides (name x) m).0 e) mine
 
   -- a list to which no link can be added has each connected name
-  has_connected : (list : List A) → ((x : A) → IsIn x links → is_next name prev list x ≡ false) → (n : Name) → IsConnected name prev links n → has_name (names name list) n ≡ true
+  pub has_connected : (list : List A) → ((x : A) → IsIn x links → is_next name prev list x ≡ false) → (n : Name) → IsConnected name prev links n → has_name (names name list) n ≡ true
   has_connected list complete n (joins x m k e parents) = go (and_cases (not (has_name (names name list) (name x))) (list_all (has_name (names name list)) (prev x)) (complete x k)) (all_of_each (has_name (names name list)) (prev x) (λ p h. has_connected list complete p (parents p h)))
     where
       go : (not (has_name (names name list) (name x)) ≡ false) ⊎ (list_all (has_name (names name list)) (prev x) ≡ false) → list_all (has_name (names name list)) (prev x) ≡ true → has_name (names name list) n ≡ true

@@ -1,8 +1,11 @@
 pub mod Agree
 pub mod Ancestors
+pub mod Arrivals
 pub mod Closures
 pub mod ConnectedLaw
+pub mod Connects
 pub mod Distinct
+pub mod Inserts
 pub mod OrderLeast
 pub mod OrderSame
 pub mod Parts

@@ -23,7 +23,7 @@ alike false true f g = g refl
 alike false false f g = refl
 
 -- neither name is before the other: they are one
-name_lt-both : (a b : Name) → name_lt a b ≡ false → name_lt b a ≡ false → a ≡ b
+pub name_lt-both : (a b : Name) → name_lt a b ≡ false → name_lt b a ≡ false → a ≡ b
 name_lt-both a b h k = go (slice_cmp nat_cmp a b) refl
   where
     go : (r : Ordering) → slice_cmp nat_cmp a b ≡ r → a ≡ b
@@ -42,7 +42,7 @@ module _ {A : Type 0} (name : A → Name) (prev : A → List Name) where
       let rest : xs ≡ ys = in_turn-unique links (placed ++ x ∷ []) xs ys h.1 (subst (λ z. IsChosenInTurn name prev links (placed ++ z ∷ []) ys) (sym same) k.1) in
       cc
 
-  filter_none : (p : A → Bool) (xs : List A) → ((x : A) → IsIn x xs → p x ≡ false) → filter p xs ≡ []
+  pub filter_none : (p : A → Bool) (xs : List A) → ((x : A) → IsIn x xs → p x ≡ false) → filter p xs ≡ []
   filter_none p [] h = refl
   filter_none p (x ∷ xs) h = rw (h x (inl refl)) (filter_none p xs (λ y k. h y (inr k)))
 
@@ -73,12 +73,12 @@ module _ {A : Type 0} (name : A → Name) (prev : A → List Name) where
   name_in (x ∷ xs) y (inl same) m e = or_left (same_name (name x) m) (has_name (names name xs) m) ((bytes_decides (name x) m).1 (ap name same ∙ e))
   name_in (x ∷ xs) y (inr k) m e = or_right (same_name (name x) m) (has_name (names name xs) m) (name_in xs y k m e)
 
-  has_of_in : (ms : List Name) (n : Name) → IsIn n ms → has_name ms n ≡ true
+  pub has_of_in : (ms : List Name) (n : Name) → IsIn n ms → has_name ms n ≡ true
   has_of_in [] n k = absurd k
   has_of_in (m ∷ ms) n (inl e) = or_left (same_name m n) (has_name ms n) ((bytes_decides m n).1 e)
   has_of_in (m ∷ ms) n (inr k) = or_right (same_name m n) (has_name ms n) (has_of_in ms n k)
 
-  list_all-alike : (p q : Name → Bool) (ms : List Name) → ((m : Name) → IsIn m ms → p m ≡ q m) → list_all p ms ≡ list_all q ms
+  pub list_all-alike : (p q : Name → Bool) (ms : List Name) → ((m : Name) → IsIn m ms → p m ≡ q m) → list_all p ms ≡ list_all q ms
   list_all-alike p q [] h = refl
   list_all-alike p q (m ∷ ms) h = rw (h m (inl refl)) (ap (λ b. q m && b) (list_all-alike p q ms (λ n k. h n (inr k))))
 
@@ -93,7 +93,7 @@ module _ {A : Type 0} (name : A → Name) (prev : A → List Name) where
       go false is true e f = rw is e
       go false is false e f = e
 
-  filter_end : (p : A → Bool) (xs : List A) (x : A) (b : Bool) → p x ≡ b → filter p (xs ++ x ∷ []) ≡ filter p xs ++ cond b (x ∷ []) []
+  pub filter_end : (p : A → Bool) (xs : List A) (x : A) (b : Bool) → p x ≡ b → filter p (xs ++ x ∷ []) ≡ filter p xs ++ cond b (x ∷ []) []
   filter_end p [] x true e = rw e refl
   filter_end p [] x false e = rw e refl
   filter_end p (y ∷ ys) x b e = go (p y) (filter_end p ys x b e)

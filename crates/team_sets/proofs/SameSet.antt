@@ -87,7 +87,7 @@ module _ {A : Type 0} (name : A → Name) where
       go true h = (apart_filter (name x) p xs d.0, h)
       go false h = h
 
-  length_among : (xs ys : List A) → IsSet name xs → ((x : A) → IsIn x xs → IsIn x ys) → length xs ≤ length ys
+  pub length_among : (xs ys : List A) → IsSet name xs → ((x : A) → IsIn x xs → IsIn x ys) → length xs ≤ length ys
   unfolding IsDistinct
   length_among [] ys d to = omega arith
   length_among (x ∷ xs) ys d to =

@@ -17,7 +17,7 @@ module _ {A : Type 0} where
   any_alike p q [] h = refl
   any_alike p q (x ∷ xs) h = rw (h x (inl refl)) (ap (λ b. q x || b) (any_alike p q xs (λ y k. h y (inr k))))
 
-  filter_alike : (p q : A → Bool) (xs : List A) → ((x : A) → IsIn x xs → p x ≡ q x) → filter p xs ≡ filter q xs
+  pub filter_alike : (p q : A → Bool) (xs : List A) → ((x : A) → IsIn x xs → p x ≡ q x) → filter p xs ≡ filter q xs
   filter_alike p q [] h = refl
   filter_alike p q (x ∷ xs) h = rw (h x (inl refl)) (go (q x) (filter_alike p q xs (λ y k. h y (inr k))))
     where

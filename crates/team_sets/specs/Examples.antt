@@ -1,7 +1,9 @@
-use Rattle.std.specs.Prelude.{◌≡◌, ℕ, ◌&&◌, ◌==◌, List, [], ◌∷◌, map, Bool, true, nat_lt}
+use Rattle.std.specs.Prelude.{◌≡◌, ℕ, ◌&&◌, ◌==◌, List, [], ◌∷◌, map, fold, Bool, true, nat_lt}
 use Rattle.std.specs.List.{list_any}
 use Rattle.team_sets.specs.Names.{Name}
 use Rattle.team_sets.specs.Order.{order}
+use Rattle.team_sets.specs.Insertion.{place_in}
+use Rattle.team_sets.specs.Arrival.{arrived}
 use Rattle.team_sets.specs.Ancestry.{is_before, are_concurrent, past, height}
 use Rattle.team_sets.specs.Settlement.{decision, stands, struck, lost}
 
@@ -18,6 +20,21 @@ five = node 1 (5 ∷ []) ∷ node 2 (4 ∷ []) ∷ node 5 (0 ∷ []) ∷ node 0 
 
 abbrev pub OrderRow : Type 0
 OrderRow = map (λ x. x.name) (order (λ x. x.name) (λ x. x.prev) five) ≡ (0 ∷ []) ∷ (4 ∷ []) ∷ (2 ∷ []) ∷ (5 ∷ []) ∷ (1 ∷ []) ∷ []
+
+-- the names of the links in the order that insertion gives them, one by one
+abbrev pub inserted : List Node → List Name
+inserted links = map (λ x. x.name) (fold (λ sorted x. place_in (λ x. x.name) (λ x. x.prev) x sorted) [] links)
+
+-- the same five, put in one by one as they come, in three ways
+abbrev pub InsertionRow : Type 0
+InsertionRow =
+    (inserted (node 0 [] ∷ node 5 (0 ∷ []) ∷ node 4 (0 ∷ []) ∷ node 1 (5 ∷ []) ∷ node 2 (4 ∷ []) ∷ []) ≡ (0 ∷ []) ∷ (4 ∷ []) ∷ (2 ∷ []) ∷ (5 ∷ []) ∷ (1 ∷ []) ∷ [])
+    × (inserted (node 0 [] ∷ node 5 (0 ∷ []) ∷ node 1 (5 ∷ []) ∷ node 4 (0 ∷ []) ∷ node 2 (4 ∷ []) ∷ []) ≡ (0 ∷ []) ∷ (4 ∷ []) ∷ (2 ∷ []) ∷ (5 ∷ []) ∷ (1 ∷ []) ∷ [])
+    × (inserted (node 0 [] ∷ node 4 (0 ∷ []) ∷ node 2 (4 ∷ []) ∷ node 5 (0 ∷ []) ∷ node 1 (5 ∷ []) ∷ []) ≡ (0 ∷ []) ∷ (4 ∷ []) ∷ (2 ∷ []) ∷ (5 ∷ []) ∷ (1 ∷ []) ∷ [])
+
+-- 1 and 2 come before their parents 5 and 4, and 5 before the root: each link connects with those that waited for it, the least of those ready next
+abbrev pub ArrivalRow : Type 0
+ArrivalRow = map (λ x. x.name) (arrived (λ x. x.name) (λ x. x.prev) five) ≡ (0 ∷ []) ∷ (5 ∷ []) ∷ (1 ∷ []) ∷ (4 ∷ []) ∷ (2 ∷ []) ∷ []
 
 -- 0, 1 with parent 0, 2 with parent 0, 3 with parents 1 and 2
 abbrev pub diamond : List Node

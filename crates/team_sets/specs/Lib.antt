@@ -1,8 +1,12 @@
 pub mod Ancestry
 pub mod AncestryLaws
+pub mod Arrival
+pub mod ArrivalLaws
 pub mod Closure
 pub mod Connected
 pub mod Examples
+pub mod Insertion
+pub mod InsertionLaws
 pub mod Members
 pub mod Names
 pub mod Order

@@ -1,8 +1,10 @@
 ghost use Rattle.std.specs.Prelude.{◌≡◌, ◌↔◌, Bool, List, ℕ, true};
 ghost use Rattle.team_sets.specs.AncestryLaws.{AncestorsAreParentsAndTheirs, AncestryIsTransitive, OrderOfPast, PastOfPast};
+ghost use Rattle.team_sets.specs.ArrivalLaws.{AllConnected, ArrivedExtends, ArrivedIsOrdered, ConnectsNext, LeastIsByName, NextAfter, StaysConnected};
 ghost use Rattle.team_sets.specs.Closure.{closure, has, Reaches};
 ghost use Rattle.team_sets.specs.Connected.{OrderIsConnected};
-ghost use Rattle.team_sets.specs.Examples.{DiamondRow, OrderRow, RingRow, WideRow};
+ghost use Rattle.team_sets.specs.Examples.{ArrivalRow, DiamondRow, InsertionRow, OrderRow, RingRow, WideRow};
+ghost use Rattle.team_sets.specs.InsertionLaws.{InsertionInTurn, InsertionIsOrder};
 ghost use Rattle.team_sets.specs.OrderLaws.{IsSet, NamesDiffer, OrderIsChosen, OrderIsLeast, OrderIsOfSet};
 ghost use Rattle.team_sets.specs.PartLaws.{OrderOfPart};
 ghost use Rattle.team_sets.specs.PastLaws.{PastIsShorter, PastStays};
@@ -38,6 +40,47 @@ pub fn chosen_is_order<T>()
 /// The order of a part that has the parents of each of its links is the order of the set, with that part alone.
 pub fn order_of_part<T>()
     ensures { (name : T → List ℕ) (prev : T → List (List ℕ)) → OrderOfPart name prev }
+{}
+
+/// The least of a list is told by its name, and depends on the members alone.
+pub fn least_is_by_name<T>()
+    ensures { (name : T → List ℕ) (links : List T) → NamesDiffer name links → LeastIsByName name links }
+{}
+
+/// One link follows at a time: the least by name of those that may stand next, and then those behind it.
+pub fn connects_next<T>()
+    ensures { (name : T → List ℕ) (prev : T → List (List ℕ)) (links placed : List T) → ConnectsNext name prev links placed }
+{}
+
+/// Once a link is placed, those that may stand next could before, or are its children.
+pub fn next_after<T>()
+    ensures { (name : T → List ℕ) (prev : T → List (List ℕ)) (placed : List T) (y z : T) → NextAfter name prev placed y z }
+{}
+
+/// Where none may stand next and a link comes, it alone may, or none; and behind it only its children.
+pub fn stays_connected<T>()
+    ensures { (name : T → List ℕ) (prev : T → List (List ℕ)) (links placed : List T) (x : T)
+        → AllConnected name prev links placed → StaysConnected name prev links placed x }
+{}
+
+/// What connects when a link comes follows what had connected.
+pub fn arrived_extends<T>()
+    ensures { (name : T → List ℕ) (prev : T → List (List ℕ)) (links : List T) (x : T) → ArrivedExtends name prev links x }
+{}
+
+/// The links that connected are those of the order, each once and behind its parents.
+pub fn arrived_is_ordered<T>()
+    ensures { (name : T → List ℕ) (prev : T → List (List ℕ)) (links : List T) → IsSet name links → ArrivedIsOrdered name prev links }
+{}
+
+/// Where all links are connected and one comes behind them, the order is the old one with the link put in.
+pub fn insertion_is_order<T>()
+    ensures { (name : T → List ℕ) (prev : T → List (List ℕ)) → InsertionIsOrder name prev }
+{}
+
+/// The same for links that connect one by one.
+pub fn insertion_in_turn<T>()
+    ensures { (name : T → List ℕ) (prev : T → List (List ℕ)) → InsertionInTurn name prev }
 {}
 
 /// The past of a connected link has fewer links than the set.
@@ -114,6 +157,12 @@ pub fn closure_is_reach<T>()
 /// A root, two branches of two links: by names, parents first.
 pub fn worked_order()
     ensures { OrderRow }
+{}
+
+/// The same links put in one by one, in three ways; and in the order in which they connect where children come first.
+pub fn worked_insertion()
+    ensures inserted { InsertionRow }
+    ensures arrived { ArrivalRow }
 {}
 
 /// A diamond of four links: ancestors, concurrency and height.
