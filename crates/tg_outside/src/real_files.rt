@@ -5,13 +5,17 @@ ghost use Rattle.tg_outside.specs.declared.fault.Fault.TheVariants.{Failed as ha
 use crate::fault::Fault;
 use crate::files::Files;
 use std::alloc::Global;
-use std::fs::{File, OpenFile};
+use std::fs::{OpenFile, OpenOptions};
 use std::io::{Error, ErrorKind, Read, Write};
+use std::os::unix::fs::OpenOptionsExt;
 use std::{fs, io, rt};
 use tg_text::Bytes;
 
 // The most bytes of a file that are read: one more than a file of the product may have.
 const MOST_BYTES: u64 = 268_435_457;
+
+// How the files begin that hold secrets: those of keys and of tokens.
+const SECRET_STARTS: [&[u8]; 2] = [b"team-key ", b"team-token "];
 
 // How many names are tried for the file that is written beside.
 const MOST_TRIES: u32 = 1_000;
@@ -20,7 +24,8 @@ const MOST_TRIES: u32 = 1_000;
 ///
 /// Only a file that isn't found is absent. A directory, a name with a file as a folder in it and a file that may not be
 /// read are failed reads. A read gives at most the first 268,435,457 bytes. A replace writes a new file beside, under a
-/// name that no file has, and renames it.
+/// name that no file has, and renames it. Its owner alone may read and write a file that begins as those do that hold
+/// secrets; who may read another is as the system's mask says.
 #[derive(Drop)]
 pub struct RealFiles<'a, R: rt::Files> {
     rt: &'a R,
@@ -82,7 +87,7 @@ fn read_file<R: rt::Files>(rt: &R, alloc: Global, name: &str) -> io::Result<Vec<
 }
 
 fn replace_file<R: rt::Files>(rt: &R, alloc: Global, name: &str, bytes: &[u8]) -> io::Result<()> {
-    let (beside, file) = create_beside(rt, alloc, name)?;
+    let (beside, file) = create_beside(rt, alloc, name, mode_of(bytes))?;
     let done = match write_file(file, bytes) {
         Ok(()) => fs::rename(rt, beside.as_str(), name),
         Err(error) => Err(error),
@@ -94,11 +99,28 @@ fn replace_file<R: rt::Files>(rt: &R, alloc: Global, name: &str, bytes: &[u8]) -
     done
 }
 
+// The permission bits of a file of these bytes, of which the system's mask takes some away.
+fn mode_of(bytes: &[u8]) -> u32 {
+    for start in SECRET_STARTS {
+        if bytes.starts_with(start) {
+            return 0o600;
+        }
+    }
+    0o666
+}
+
 // Makes a file beside, under a name that no file has.
-fn create_beside<R: rt::Files>(rt: &R, alloc: Global, name: &str) -> io::Result<(String, R::File)> {
+fn create_beside<R: rt::Files>(
+    rt: &R,
+    alloc: Global,
+    name: &str,
+    mode: u32,
+) -> io::Result<(String, R::File)> {
+    let mut options = OpenOptions::new();
+    options.write(true).create_new(true).mode(mode);
     for number in 0..MOST_TRIES {
         let beside = format!(in alloc; "{name}.new{number}")?;
-        match File::create_new(rt, beside.as_str()) {
+        match options.open(rt, beside.as_str()) {
             Ok(file) => return Ok((beside, file)),
             Err(error) if error.kind() == ErrorKind::AlreadyExists => {}
             Err(error) => return Err(error),

@@ -1,9 +1,12 @@
 use crate::{
-    Failed, Fault, Files, MemoryFiles, MemorySink, Output, RealFiles, Silent, Sink, Steps,
-    SureFiles, SureSink, Tally, write_all,
+    Clock, Entropy, Failed, Fault, Files, FixedClock, Input, ListEntropy, MemoryFiles, MemorySink,
+    MemorySource, Output, RealClock, RealEntropy, RealFiles, Silent, Sink, Source, Steps,
+    SureEntropy, SureFiles, SureSink, SureSource, Tally, write_all,
 };
+use hex::FromHex;
 use std::alloc::Global;
 use std::fs;
+use std::os::unix::fs::MetadataExt;
 use std::test::Fail;
 use tg_text::Bytes;
 
@@ -150,4 +153,112 @@ fn real_files_are_replaced(rt: HostRuntime) -> Result<(), Fail> {
     fs::remove_file(&rt, "replaced.test.new0")?;
     fs::remove_file(&rt, "replaced.test")?;
     Ok(())
+}
+
+// Who else may read a file of a team is as the system's mask says.
+#[test]
+fn a_key_file_is_its_owners_alone(rt: HostRuntime) -> Result<(), Fail> {
+    let alloc = rt.alloc();
+    let mut files = RealFiles::new(&rt);
+    for text in ["team-key 1\n", "team-token 1\n"] {
+        fs::write(&rt, "owned.test", "team-file 1 ")?;
+        files.replace(alloc, "owned.test", text.as_bytes())?;
+        assert_eq!(rt; fs::metadata(&rt, "owned.test")?.mode() & 0o777, 0o600);
+    }
+    fs::remove_file(&rt, "owned.test")?;
+    Ok(())
+}
+
+// Call 1 fails and takes nothing; then the second word comes, and then none is left.
+#[test]
+fn words_are_drawn_in_order(rt: HostRuntime) -> Result<(), Fail> {
+    let alloc = rt.alloc();
+    let words = [[7; 32], [8; 32]];
+    let mut entropy = ListEntropy::new(&words, vec![in alloc; 1]?);
+    assert_eq!(rt; entropy.draw(), Ok([7; 32]));
+    assert_eq!(rt; entropy.draw(), Err(Failed));
+    assert_eq!(rt; entropy.draw(), Ok([8; 32]));
+    assert_eq!(rt; entropy.draw(), Err(Failed));
+    assert_eq!(rt; entropy.draw(), Err(Failed));
+    Ok(())
+}
+
+// The SHA-256 of 32 bytes 0x22 and then eight bytes that are 0 and 1, computed by another program.
+#[test]
+fn sure_entropy_counts(rt: HostRuntime) -> Result<(), Fail> {
+    let mut entropy = SureEntropy::new([0x22; 32]);
+    for word in [
+        "f91b337d83bdbe27156e7edd977a126af56ea98b487e19dd6fa114eeac042a8a",
+        "f74af55dd92b27b15e2a2ddac2b0713c3734edb8646f520b1a591fb5f738db52",
+    ] {
+        assert_eq!(rt; entropy.draw()?, <[u8; 32] as FromHex>::from_hex(word)?);
+    }
+    Ok(())
+}
+
+#[test]
+fn a_fixed_clock_stands(rt: HostRuntime) {
+    let mut clock = FixedClock::new(1_000_000);
+    assert_eq!(rt; clock.now(), 1_000_000);
+    assert_eq!(rt; clock.now(), 1_000_000);
+}
+
+// Three bytes in a call, of which call 1 fails and takes nothing.
+#[test]
+fn a_source_is_read_to_its_end(rt: HostRuntime) -> Result<(), Fail> {
+    let mut source = MemorySource::new(b"words", vec![in rt.alloc(); 1]?);
+    source.set_most(3);
+    let mut buffer = [b'-'; 4];
+    assert_eq!(rt; source.read(&mut buffer), Ok(3));
+    assert_eq!(rt; buffer.as_slice(), "wor-".as_bytes());
+    assert_eq!(rt; source.read(&mut buffer), Err(Failed));
+    assert_eq!(rt; source.read(&mut []), Ok(0));
+    assert_eq!(rt; source.read(&mut buffer), Ok(2));
+    assert_eq!(rt; buffer.as_slice(), "dsr-".as_bytes());
+    assert_eq!(rt; source.read(&mut buffer), Ok(0));
+    Ok(())
+}
+
+#[test]
+fn a_source_that_gives_nothing_fails(rt: HostRuntime) {
+    let mut source = MemorySource::new(b"a", Vec::new(rt.alloc()));
+    source.set_most(0);
+    let mut buffer = [0; 4];
+    assert_eq!(rt; source.read(&mut buffer), Err(Failed));
+    assert_eq!(rt; source.read(&mut []), Ok(0));
+}
+
+#[test]
+fn a_sure_source_gives_all(rt: HostRuntime) {
+    let mut source = SureSource::new(b"words");
+    let mut buffer = [b'-'; 6];
+    assert_eq!(rt; source.read(&mut buffer), Ok(5));
+    assert_eq!(rt; buffer.as_slice(), "words-".as_bytes());
+    assert_eq!(rt; source.read(&mut buffer), Ok(0));
+}
+
+#[test]
+fn input_reads_through(rt: HostRuntime) {
+    let mut input = Input::new(b"word".as_slice());
+    let mut buffer = [0; 3];
+    assert_eq!(rt; input.read(&mut buffer), Ok(3));
+    assert_eq!(rt; buffer.as_slice(), "wor".as_bytes());
+    assert_eq!(rt; input.read(&mut buffer), Ok(1));
+    assert_eq!(rt; input.read(&mut buffer), Ok(0));
+}
+
+// Two words that are alike don't come in anybody's life.
+#[test]
+fn the_systems_words_differ(rt: HostRuntime) -> Result<(), Fail> {
+    let mut entropy = RealEntropy::new(&rt);
+    let first = entropy.draw()?;
+    assert!(rt; first != entropy.draw()?);
+    Ok(())
+}
+
+// After November 2023, and before the year 2286.
+#[test]
+fn the_systems_clock_says_seconds(rt: HostRuntime) {
+    let now = RealClock::new(&rt).now();
+    assert!(rt; 1_700_000_000 < now && now < 10_000_000_000);
 }

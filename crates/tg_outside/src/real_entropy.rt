@@ -1,0 +1,44 @@
+ghost use Rattle.std.specs.Prelude.{◌≡◌, None};
+
+use crate::entropy::Entropy;
+use crate::fault::Failed;
+use std::io::Read;
+use std::{fs, io, rt};
+
+/// The random bytes of the system, which tell nothing: a word is read of `/dev/urandom`.
+#[derive(Drop)]
+pub struct RealEntropy<'a, R: rt::Files> {
+    rt: &'a R,
+    faults: u64,
+}
+
+impl<'a, R: rt::Files> RealEntropy<'a, R> {
+    /// No fault counted yet.
+    pub fn new(rt: &'a R) -> RealEntropy<'a, R>
+        ensures { ⟦<RealEntropy<'a, R> as Entropy>⟧.faults result ≡ 0 }
+    {
+        RealEntropy { rt, faults: 0 }
+    }
+}
+
+impl<R: rt::Files> Entropy for RealEntropy<'_, R> {
+    ghost left = { λ _. None };
+
+    ghost faults = { λ it. it.faults };
+
+    fn draw(&mut self) -> Result<[u8; 32], Failed> {
+        match read_random(self.rt) {
+            Ok(word) => Ok(word),
+            Err(_) => {
+                self.faults = self.faults.saturating_add(1);
+                Err(Failed)
+            }
+        }
+    }
+}
+
+fn read_random<R: rt::Files>(rt: &R) -> io::Result<[u8; 32]> {
+    let mut word = [0; 32];
+    fs::open(rt, "/dev/urandom")?.read_exact(&mut word)?;
+    Ok(word)
+}
