@@ -47,13 +47,18 @@ pub replaced : (old new : Option FileMap) (name bytes : List ℕ) (result : Resu
 replaced old new name bytes (Err e) seen w h is = tt
 replaced old new name bytes (Ok u) seen w h is = told_files seen w old new (fin.insert w.files name bytes) is (rw is.files at h.ok)
 
+-- the file is as before, or has the bytes
+pub either-cut : (old new : Option FileMap) (name bytes : List ℕ) (seen : Seen) (w : World)
+    → (new ≡ Some w.files) ⊎ (new ≡ Some (fin.insert w.files name bytes)) → Tells (record seen { files = old }) w
+    → IsCut (record seen { files = new }) (replace name bytes ∷ []) w
+either-cut old new name bytes seen w (inl e) is = cut-none (replace name bytes ∷ []) w (record seen { files = new }) (told_files seen w old new w.files is e)
+either-cut old new name bytes seen w (inr e) is =
+    cut-all (replace name bytes ∷ []) w (record seen { files = new }) (told_files seen w old new (fin.insert w.files name bytes) is e)
+
 pub replaced-cut : (old new : Option FileMap) (name bytes : List ℕ) (result : Result (Unit {0}) Fault) (seen : Seen) (w : World)
     → Replaces old new name bytes result → Tells (record seen { files = old }) w
     → IsCut (record seen { files = new }) (replace name bytes ∷ []) w
-replaced-cut old new name bytes result seen w h is = either (rw is.files at h.either) where
-  either : (new ≡ Some w.files) ⊎ (new ≡ Some (fin.insert w.files name bytes)) → IsCut (record seen { files = new }) (replace name bytes ∷ []) w
-  either (inl e) = cut-none (replace name bytes ∷ []) w (record seen { files = new }) (told_files seen w old new w.files is e)
-  either (inr e) = cut-all (replace name bytes ∷ []) w (record seen { files = new }) (told_files seen w old new (fin.insert w.files name bytes) is e)
+replaced-cut old new name bytes result seen w h is = either-cut old new name bytes seen w (rw is.files at h.either) is
 
 -- the replaces before the one at i, and that one
 pub puts_more : (all : List Put) (i : ℕ) (p : Put) → i < length all → p ≡ get_or all i p → puts (take (i + 1) all) ≡ puts (take i all) ++ put_step p ∷ []

@@ -1,5 +1,5 @@
 -- What a command does, as one value: its status, and its steps in order.
-use Rattle.std.specs.Prelude.{ℕ, List, [], ◌∷◌, ◌++◌, map, drop}
+use Rattle.std.specs.Prelude.{ℕ, List, [], ◌∷◌, ◌++◌, map, drop, get_or, replicate}
 use Rattle.std.specs.FinMap as fin
 use Rattle.tg_outside.specs.Contents.{FileMap}
 use Rattle.outcomes.specs.declared.put.Put.{Put}
@@ -31,6 +31,15 @@ abbrev pub after : List Step → World → World
 after [] w = w
 after (s ∷ steps) w = after steps (after_step s w)
 
+-- The word that is drawn after n others. Behind the words that are told it is 32 zero bytes, so that an outcome is said
+-- where they are too few.
+abbrev pub drawn : ℕ → World → List ℕ
+drawn n w = get_or w.draws n (replicate 32 0)
+
+-- the steps that draw n words
+abbrev pub draws : ℕ → List Step
+draws n = replicate n draw
+
 -- the steps that replace files, in order
 abbrev pub put_step : Put → Step
 put_step put = replace put.name put.bytes
@@ -50,3 +59,7 @@ pub record Outcome : Type 0 where
 -- nothing is done but to print the text
 abbrev pub saying : ℕ → List ℕ → Outcome
 saying status text = record { status = status; steps = writes text }
+
+-- Words are drawn, then files are replaced, then the text is printed.
+abbrev pub acting : ℕ → ℕ → List Put → List ℕ → Outcome
+acting status words all text = record { status = status; steps = draws words ++ (puts all ++ writes text) }

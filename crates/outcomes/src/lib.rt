@@ -6,11 +6,13 @@
 #![tactic(auto)]
 
 mod answer;
+mod draw;
 mod laws;
 mod put;
 #[cfg(test)]
 mod tests;
 
 pub use answer::{Answer, conclude};
+pub use draw::draw_word;
 pub use laws::{cut_after_first_part, cut_in_first_part, steps_of_two_parts};
 pub use put::{Put, replace_all, replace_one};

@@ -1,7 +1,7 @@
-use crate::{Answer, Put, conclude, replace_all, replace_one};
+use crate::{Answer, Put, conclude, draw_word, replace_all, replace_one};
 use std::alloc::Global;
 use std::test::Fail;
-use tg_outside::{Fault, MemoryFiles, MemorySink};
+use tg_outside::{Failed, Fault, ListEntropy, MemoryFiles, MemorySink};
 use tg_text::{Bytes, Memory, Word};
 
 fn put(alloc: Global, name: &str, bytes: &[u8]) -> Result<Put, Memory> {
@@ -60,5 +60,15 @@ fn a_fault_ends_the_printing(rt: HostRuntime) -> Result<(), Fail> {
     assert_eq!(rt; conclude(&mut out, Err(Fault::Failed)), 5);
     assert_eq!(rt; conclude(&mut out, Err(Fault::Memory)), 6);
     assert_eq!(rt; out.bytes(), "team".as_bytes());
+    Ok(())
+}
+
+#[test]
+fn a_word_is_drawn(rt: HostRuntime) -> Result<(), Fail> {
+    let words = [[7; 32]];
+    let mut entropy = ListEntropy::new(&words, vec![in rt.alloc(); 0]?);
+    assert_eq!(rt; draw_word(&mut entropy), Err(Failed));
+    assert_eq!(rt; draw_word(&mut entropy), Ok([7; 32]));
+    assert_eq!(rt; draw_word(&mut entropy), Err(Failed));
     Ok(())
 }
