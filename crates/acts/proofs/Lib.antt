@@ -1,1 +1,6 @@
-pub mod Cuts
+pub mod ActLaws
+pub mod ActWords
+pub mod Appends
+pub mod Bodies
+pub mod Forms
+pub mod Pairs

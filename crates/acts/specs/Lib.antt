@@ -1,1 +1,4 @@
 pub mod ActText
+pub mod Admin
+pub mod Fields
+pub mod ProofText
