@@ -1,5 +1,15 @@
+pub mod Ascending
+pub mod Boxed
+pub mod Currents
+pub mod Ends
 pub mod Equal
-pub mod Grown
+pub mod GoneBack
 pub mod Kept
+pub mod Marks
 pub mod Meeting
+pub mod Numbered
+pub mod Orders
+pub mod Runs
 pub mod Searched
+pub mod Turned
+pub mod Walked

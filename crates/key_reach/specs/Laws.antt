@@ -1,4 +1,4 @@
--- What holds of the tables of every state.
+-- What holds of tables of keys.
 use Rattle.std.specs.Prelude.{◌≡◌, Bool, true, false, not, ◌&&◌, map, codes}
 use Rattle.std.specs.List.{IsDistinct}
 use Rattle.std.specs.List.Sorted.{IsStrictlySortedBy}
@@ -18,8 +18,12 @@ may_lead (Role r) Team = true
 may_lead (Role q) (Role r) = same_name q (codes "admin") && not (same_name r (codes "admin"))
 may_lead _ _ = false
 
+-- an allowed arrow joins live scopes, and goes where it may
 pub record IsKeyTable (t : Table) : Type 0 where
-  pub ascends : IsStrictlySortedBy scope_cmp t.scopes
-  pub one_each : IsDistinct same_scope (map (λ k. k.scope) t.currents)
   pub joins_live : (to of : Scope) → t.allowed to of ≡ true → (is_live t to ≡ true) × (is_live t of ≡ true)
   pub leads : (to of : Scope) → t.allowed to of ≡ true → may_lead to of ≡ true
+
+-- scopes stand in order, and each has at most one current key
+pub record IsOrdered (t : Table) : Type 0 where
+  pub ascends : IsStrictlySortedBy scope_cmp t.scopes
+  pub one_each : IsDistinct same_scope (map (λ k. k.scope) t.currents)

@@ -1,6 +1,9 @@
+pub mod Backwards
 pub mod Debts
+pub mod Graphs
 pub mod Keys
 pub mod Laws
 pub mod Lists
+pub mod Numbers
 pub mod Rows
 pub mod Steps

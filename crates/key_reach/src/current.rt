@@ -1,39 +1,43 @@
-ghost use Rattle.std.specs.Prelude.{◌≡◌, not, ◌++◌, filter, IfOk};
+ghost use Rattle.std.specs.Prelude.{◌≡◌, not, filter, IfOk};
 ghost use Rattle.std.specs.List.Sorted.{IsStrictlySortedBy};
 ghost use Rattle.team_sets.specs.Closure.{has};
-ghost use Rattle.tg_text.specs.Order.{key_cmp};
+ghost use Rattle.tg_text.specs.Order.{key_cmp, scope_cmp};
+ghost use Rattle.key_reach.specs.Laws.{IsOrdered};
 ghost use Rattle.key_reach.specs.Keys as words;
 
-use crate::lists::is_known;
+use crate::lists::{is_known, is_known_scope, ordered_keys};
 use crate::table::KeyTable;
 use std::alloc::Global;
 use tg_text::{KeyId, Memory, Scope};
 
 // The current keys of the live scopes, in order.
 pub(crate) fn current_keys<V: KeyTable>(alloc: Global, view: &V) -> Result<Vec<KeyId>, Memory>
-    ensures { IfOk result (λ keys. keys.items ≡ words.current_keys (V.table view.now)) }
+    ensures keys { IfOk result (λ keys. keys.items ≡ words.current_keys (V.table view.now)) }
+    ensures ordered { IfOk result (λ _. IsOrdered (V.table view.now)) }
 {
-    let mut keys = Vec::new(alloc);
-    for scope in view.scopes() {
-        push_keys_of(&mut keys, view, scope)?;
-    }
-    Ok(keys)
+    let known = ordered_keys(alloc, view.currents())?;
+    live_keys(alloc, view.scopes(), known.as_slice())
 }
 
-// The current keys of a scope.
-pub(crate) fn push_keys_of<V: KeyTable>(
-    keys: &mut Vec<KeyId>,
-    view: &V,
-    scope: &Scope,
-) -> Result<(), Memory>
-    ensures { IfOk result (λ _. keys.new.items ≡ keys.old.items ++ words.keys_of (V.table view.now) scope.now) }
+// The keys of these scopes, which ascend, among these keys.
+fn live_keys(alloc: Global, scopes: &[Scope], keys: &[KeyId]) -> Result<Vec<KeyId>, Memory>
+    requires { IsStrictlySortedBy scope_cmp scopes.now }
+    ensures { IfOk result (λ live. live.items ≡ filter (λ k. has words.same_scope scopes.now k.scope) keys.now) }
 {
-    for key in view.currents() {
-        if is_same_scope(&key.scope, scope) {
-            keys.push(*key)?;
+    let mut live = Vec::new(alloc);
+    for key in keys {
+        if is_of_scopes(scopes, key) {
+            live.push(*key)?;
         }
     }
-    Ok(())
+    Ok(live)
+}
+
+fn is_of_scopes(scopes: &[Scope], key: &KeyId) -> bool
+    requires { IsStrictlySortedBy scope_cmp scopes.now }
+    ensures { result ≡ has words.same_scope scopes.now key.now.scope }
+{
+    is_known_scope(scopes, &key.scope)
 }
 
 // Whether two scopes are one.

@@ -3,6 +3,7 @@ ghost use Rattle.key_reach.specs.Keys.{is_entitled};
 ghost use Rattle.key_reach.specs.Steps.{met};
 
 use crate::current::is_same_scope;
+use crate::scope_graphs::leads;
 use crate::table::KeyTable;
 use tg_text::{DeviceId, Scope};
 
@@ -26,7 +27,7 @@ fn meets<V: KeyTable>(view: &V, from: &Scope, to: &Scope, steps: usize) -> bool
         return false;
     }
     for middle in view.scopes() {
-        if view.allowed(from, middle) && meets(view, middle, to, steps - 1) {
+        if leads(view, from, middle) && meets(view, middle, to, steps - 1) {
             return true;
         }
     }

@@ -1,12 +1,10 @@
 ghost use Rattle.std.specs.Prelude.{◌≡◌, not, ◌&&◌, ◌++◌, map, filter, IfOk};
-ghost use Rattle.std.specs.List.Sorted.{IsStrictlySortedBy};
-ghost use Rattle.std.specs.Ordering.{eq_by_cmp};
-ghost use Rattle.team_sets.specs.Closure.{leads_out};
 ghost use Rattle.tg_text.specs.Order.{key_cmp};
 ghost use Rattle.key_reach.specs.Lists.{IsListOf};
 ghost use Rattle.key_reach.specs.Keys as words;
 
-use crate::lists::{is_known, ordered_keys};
+use crate::box_graphs::{box_graph, keys_from};
+use crate::numbers::NumberSet;
 use crate::table::KeyTable;
 use std::alloc::Global;
 use tg_text::{BoxLine, KeyId, Memory, Scope};
@@ -15,8 +13,9 @@ use tg_text::{BoxLine, KeyId, Memory, Scope};
 pub fn reach(alloc: Global, boxes: &[BoxLine], from: &[KeyId]) -> Result<Vec<KeyId>, Memory>
     ensures { IfOk result (λ keys. IsListOf key_cmp (words.reach boxes.now from.now) keys.items) }
 {
-    let reached = follow(alloc, boxes, from)?;
-    ordered_keys(alloc, reached.as_slice())
+    let graph = box_graph(alloc, boxes, from)?;
+    let mut reached = NumberSet::new(alloc, graph.nodes.as_slice().len())?;
+    keys_from(alloc, &graph, &mut reached, from)
 }
 
 /// The keys that someone may have who is not to have them, in order.
@@ -25,43 +24,6 @@ pub fn tainted<V: KeyTable>(alloc: Global, view: &V) -> Result<Vec<KeyId>, Memor
 {
     let leaked = leaked(alloc, view)?;
     reach(alloc, view.boxes(), leaked.as_slice())
-}
-
-// The keys that these reach, pass by pass: where no box leads to a further key, all are found.
-fn follow(alloc: Global, boxes: &[BoxLine], from: &[KeyId]) -> Result<Vec<KeyId>, Memory>
-    ensures { IfOk result (λ keys. keys.items ≡ words.reach boxes.now from.now) }
-{
-    let mut reached = Vec::from_slice(alloc, from)?;
-    for _ in 0..boxes.len() {
-        let further = further_keys(alloc, boxes, reached.as_slice())?;
-        if further.is_empty() {
-            return Ok(reached);
-        }
-        reached.extend_from_slice(further.as_slice())?;
-    }
-    Ok(reached)
-}
-
-// The contents of the boxes that lead from these keys to others.
-fn further_keys(alloc: Global, boxes: &[BoxLine], reached: &[KeyId]) -> Result<Vec<KeyId>, Memory>
-    ensures { IfOk result (λ keys. keys.items ≡ map (λ a. a.1) (filter (leads_out (eq_by_cmp key_cmp) reached.now) (words.box_arrows boxes.now))) }
-{
-    let known = ordered_keys(alloc, reached)?;
-    let mut further = Vec::new(alloc);
-    for line in boxes {
-        if leads_out(known.as_slice(), line) {
-            further.push(line.of)?;
-        }
-    }
-    Ok(further)
-}
-
-// Whether a box leads from keys of an ordered list to one that isn't in it.
-fn leads_out(known: &[KeyId], line: &BoxLine) -> bool
-    requires { IsStrictlySortedBy key_cmp known.now }
-    ensures { result ≡ leads_out (eq_by_cmp key_cmp) known.now (line.now.to, line.now.of) }
-{
-    is_known(known, &line.to) && !is_known(known, &line.of)
 }
 
 // The keys of devices that were listed and aren't, and the contents of boxes that nobody may seal so now.

@@ -1,10 +1,14 @@
-ghost use Rattle.std.specs.Prelude.{◌≡◌};
-ghost use Rattle.key_reach.specs.Keys.{is_live, Table};
+ghost use Rattle.std.specs.Prelude.{◌≡◌, map};
+ghost use Rattle.std.specs.List.{IsDistinct};
+ghost use Rattle.std.specs.List.Sorted.{IsStrictlySortedBy};
+ghost use Rattle.tg_text.specs.Order.{scope_cmp};
+ghost use Rattle.key_reach.specs.Keys.{is_live, same_scope, Table};
 ghost use Rattle.key_reach.specs.Laws.{IsKeyTable};
 
 use tg_text::{BoxLine, KeyId, Scope};
 
-/// What the tables of a state show of keys. No call takes memory.
+/// What the tables of a state show of keys. Allowed arrows join live scopes and go down from devices to the team, whatever the
+/// tables. No call takes memory.
 pub trait KeyTable {
     ghost table: { Self → Table };
 
@@ -14,13 +18,15 @@ pub trait KeyTable {
     fn boxes(&self) -> &[BoxLine]
         ensures { result.now ≡ (table self.now).boxes };
 
-    /// The current key of each scope that ever had one, and the key of each device that was ever listed.
+    /// The current key of each scope that ever had one, and the key of each device that was ever listed: one of each scope.
     fn currents(&self) -> &[KeyId]
-        ensures { result.now ≡ (table self.now).currents };
+        ensures currents { result.now ≡ (table self.now).currents }
+        ensures one_each { IsDistinct same_scope (map (λ k. k.scope) (table self.now).currents) };
 
     /// The live scopes, in order.
     fn scopes(&self) -> &[Scope]
-        ensures { result.now ≡ (table self.now).scopes };
+        ensures scopes { result.now ≡ (table self.now).scopes }
+        ensures ascend { IsStrictlySortedBy scope_cmp (table self.now).scopes };
 
     /// Whether a scope is live.
     fn live(&self, scope: &Scope) -> bool

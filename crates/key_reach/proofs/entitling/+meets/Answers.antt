@@ -15,9 +15,9 @@ returns-then-meets g h c =
     let to = c.args.to.now in
     let middle = c.middle-item.result in
     let test = λ (m : Scope). t.allowed from m && met t (c.args.steps - 1) m to in
-    let passes : test middle ≡ true = and_from (t.allowed from middle) (met t (c.args.steps - 1) middle to) (sym c.allowed.ensures ∙ c.if-allowed.true) (sym c.meets.ensures ∙ c.if-meets.true) in
+    let passes : test middle ≡ true = and_from (t.allowed from middle) (met t (c.args.steps - 1) middle to) (sym c.leads.ensures ∙ c.if-leads.true) (sym c.meets.ensures ∙ c.if-meets.true) in
     let found = list_any_at test c.scopes-middle-items.result.now c.loop-middle.middle-index middle c.loop-middle-test.true (subst (λ m. test m ≡ true) c.middle-item.is passes) in
-    let any : list_any test t.scopes ≡ true = ap (λ l. list_any test l) (sym c.scopes-middle-items.ensures) ∙ found in
+    let any : list_any test t.scopes ≡ true = ap (λ l. list_any test l) (sym c.scopes-middle-items.ensures.scopes) ∙ found in
     sym (met-step t c.args.steps from to c.if-steps-eq0.false ∙ or_right (same_scope from to) (list_any test t.scopes) any)
 
 pub returns : goal.returns
