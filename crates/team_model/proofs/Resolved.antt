@@ -3,15 +3,12 @@ use Rattle.std.proofs.Common.{◌≡◌, Bool, true, false, not, ◌&&◌, ◌||
 use Rattle.team_sets.specs.Names.{has_name}
 use Rattle.team_sets.specs.Settlement.{standing}
 use Rattle.acts.specs.declared.entry.Act.{Act}
-use Rattle.acts.specs.declared.entry.Act.TheVariants.{Found, Title, Join}
 use Rattle.team_model.specs.Strikes.{is_striking}
 use Rattle.team_model.specs.Judging.{name_of, is_senior, strikes_in, strikers, standing_strikers, stays, resolved_from, first_striker}
 use Rattle.team_model.specs.declared.terms.Link.{Link}
 
 pub not_striking : (a : Act) → is_striking a ≡ false
-not_striking (Found seal title) = refl
-not_striking (Title title) = refl
-not_striking Join = refl
+not_striking a = refl
 
 pub no_strikers : (links lawful : List Link) → strikers links lawful ≡ []
 no_strikers links [] = refl

@@ -1,8 +1,9 @@
--- The act table: when an act is refused, and what it does.
+-- The act table: when an act is refused, and what it does. The acts that no link may have yet, those that `link_text` doesn't
+-- read, stand in it as `join`: nobody listed is refused, and nothing comes of them. Each gets its own row when it is read.
 use Rattle.std.specs.Prelude.{Bool, true, not, ◌&&◌, if◌then◌else◌, List, [], ◌∷◌, Option, Some, None, is_none}
 use Rattle.team_model.specs.State.{State, is_empty_state, admin, lists_user, lists_device, is_admin}
 use Rattle.acts.specs.declared.entry.Act.{Act}
-use Rattle.acts.specs.declared.entry.Act.TheVariants.{Found, Title, Join}
+use Rattle.acts.specs.declared.entry.Act.TheVariants.{Found, Title}
 use Rattle.acts.specs.declared.entry.Entry.{Entry}
 use Rattle.team_model.specs.declared.terms.Reason.{Reason}
 use Rattle.team_model.specs.declared.terms.Reason.TheVariants.{NotListed, NotAdmin, Present}
@@ -16,7 +17,7 @@ first_reason (c ∷ rest) = if c.0 then Some c.1 else first_reason rest
 abbrev pub row_of : State → Entry → Act → List (Bool × Reason)
 row_of s e (Found seal title) = (not (is_empty_state s), Present) ∷ []
 row_of s e (Title title) = (not (is_admin s e.user), NotAdmin) ∷ []
-row_of s e Join = []
+row_of s e _ = []
 
 -- each act but `found` is refused first where the author isn't listed, or the author's device isn't listed for the author
 abbrev pub conditions : State → Entry → Act → List (Bool × Reason)
@@ -36,7 +37,7 @@ effect s e (Found seal title) = record s {
   devices = record { id = e.device; seal = seal; user = e.user; listed = true } ∷ [];
 }
 effect s e (Title title) = record s { title = Some title }
-effect s e Join = s
+effect s e _ = s
 
 -- the state after an entry: the state itself where it isn't permitted
 abbrev pub after : State → Entry → State

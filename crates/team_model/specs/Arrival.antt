@@ -1,15 +1,9 @@
--- The connected links in the order in which they connect, as links arrive one by one.
-use Rattle.std.specs.Prelude.{List, [], ◌∷◌, ◌++◌, length}
-use Rattle.team_sets.specs.Order.{order_after}
+-- The connected links of a team in the order in which they connect, as links arrive one by one.
+use Rattle.std.specs.Prelude.{List}
+use Rattle.team_sets.specs.Arrival as sets
 use Rattle.team_model.specs.Judging.{name_of, prev_of}
 use Rattle.team_model.specs.declared.terms.Link.{Link}
 
--- where the links seen so far have these connected, and then the others arrive: each connects with those that waited for it, the least by name of those ready next
-abbrev pub arrived_after : List Link → List Link → List Link → List Link
-arrived_after connected seen [] = connected
-arrived_after connected seen (x ∷ xs) =
-    arrived_after (connected ++ order_after name_of prev_of (length (seen ++ x ∷ [])) connected (seen ++ x ∷ [])) (seen ++ x ∷ []) xs
-
 -- the link of position i is the i-th of these
 abbrev pub arrived : List Link → List Link
-arrived links = arrived_after [] [] links
+arrived links = sets.arrived name_of prev_of links

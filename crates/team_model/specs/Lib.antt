@@ -4,6 +4,8 @@ pub mod Counting
 pub mod Examples
 pub mod Judging
 pub mod JudgingLaws
+pub mod KeyTables
 pub mod ShowText
 pub mod State
 pub mod Strikes
+pub mod Writes

@@ -1,0 +1,43 @@
+-- What a write to the tables of a state changes.
+use Rattle.std.specs.Prelude.{ℕ, false, if◌then◌else◌, List, [], ◌∷◌, ◌++◌, Some, map}
+use Rattle.team_sets.specs.Names.{Name, same_name}
+use Rattle.tg_text.specs.declared.keys.KeyId.{KeyId}
+use Rattle.tg_text.specs.declared.keys.BoxLine.{BoxLine}
+use Rattle.team_model.specs.declared.terms.Member.{Member}
+use Rattle.team_model.specs.declared.terms.Device.{Device}
+use Rattle.team_model.specs.declared.terms.Invitation.{Invitation}
+use Rattle.team_model.specs.KeyTables.{put_current}
+use Rattle.team_model.specs.State.{State, drop_row, put_name, put_row}
+
+-- a device's row without its listing, if it is the user's
+abbrev pub unlist_of : Name → Device → Device
+unlist_of u d = if same_name d.user u then record d { listed = false } else d
+
+module _ (s : State) where
+  abbrev pub with_title : List ℕ → State
+  with_title title = record s { title = Some title }
+
+  abbrev pub with_member : Member → State
+  with_member member = record s { members = put_row (λ m. m.user) member s.members }
+
+  -- and the devices of the user are unlisted
+  abbrev pub without_member : Name → State
+  without_member user = record s { members = drop_row (λ m. m.user) user s.members; devices = map (unlist_of user) s.devices }
+
+  abbrev pub with_role : Name → State
+  with_role role = record s { roles = put_name role s.roles }
+
+  abbrev pub without_role : Name → State
+  without_role role = record s { roles = drop_row (λ r. r) role s.roles }
+
+  abbrev pub with_device : Device → State
+  with_device device = record s { devices = put_row (λ d. d.id) device s.devices }
+
+  abbrev pub with_invitation : Invitation → State
+  with_invitation invitation = record s { invitations = put_row (λ i. i.id) invitation s.invitations }
+
+  abbrev pub with_key : KeyId → State
+  with_key key = record s { currents = put_current key s.currents }
+
+  abbrev pub with_box : BoxLine → State
+  with_box line = record s { boxes = s.boxes ++ line ∷ [] }
