@@ -1,4 +1,7 @@
 pub mod Ascending
 pub mod Lines
 pub mod Parents
+pub mod Proved
+pub mod Signed
 pub mod Texts
+pub mod Written

@@ -7,7 +7,7 @@ use Rattle.team_sets.specs.Names.{Name}
 use Rattle.tg_text.specs.Spelling.{has_byte, has_newline, spell_base64, spell_decimal, spell_hex}
 use Rattle.tg_text.proofs.FieldLaws.{base64_lacks, base64_once, decimal_lacks, decimal_once, hex_lacks, hex_once, name_lacks}
 use Rattle.acts.specs.ActText.{spell_act}
-use Rattle.acts.proofs.Cuts.{act_lacks, act_once}
+use Rattle.acts.proofs.ActLaws.{act_lacks, act_once}
 use Rattle.team_model.specs.declared.terms.Link.{Link}
 use Rattle.link_text.specs.LinkText.{first_line, team_line, team_field, prev_line, user_line, key_line, time_line, act_line, new_line, box_line, sign_line, text, IsTeam, HasFields, KeepsRules, IsWellFormed, Reads}
 use Rattle.tg_text.specs.Spelling.{line_of}
@@ -96,6 +96,7 @@ rules_of r = let w = r.well_formed in record {
   parents_ascend = w.parents_ascend;
   root_without_parents = w.root_without_parents;
   root_founds = w.root_founds;
+  read_yet = w.read_yet;
 }
 
 pub reads_of : {bytes : List ℕ} {l : Link} → HasFields bytes l → KeepsRules l → length bytes ≤ 1048576 → Reads bytes l
@@ -109,6 +110,7 @@ reads_of f k short = record {
     parents_ascend = k.parents_ascend;
     root_without_parents = k.root_without_parents;
     root_founds = k.root_founds;
+    read_yet = k.read_yet;
     user = f.user;
     key = f.key;
     device = f.device;

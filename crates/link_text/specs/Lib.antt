@@ -1,4 +1,6 @@
+pub mod Drafts
 pub mod Faults
 pub mod LinkText
+pub mod ReadYet
 pub mod Takes
 pub mod TeamFile

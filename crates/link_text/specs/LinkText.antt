@@ -1,8 +1,9 @@
--- The text of a link, which links are well-formed, and of which team a link is.
+-- The text of a link, which links are well-formed, which verify, and of which team a link is.
 use Rattle.std.specs.List.{AllByRecursion}
-use Rattle.std.specs.Prelude.{◌≡◌, ◌<◌, ◌^◌, ℕ, ◌≤◌, ◌↔◌, List, [], ◌∷◌, ◌++◌, length, codes, flat_map, Option, IsTrue, IsNone, MatchOption}
+use Rattle.std.specs.Prelude.{◌≡◌, ◌<◌, ◌^◌, ℕ, ◌≤◌, ◌↔◌, Bool, true, List, [], ◌∷◌, ◌++◌, length, codes, flat_map, Option, IsTrue, IsNone, MatchOption}
 use Rattle.std.specs.Option.{option_map_or}
 use Rattle.sha2.specs.Sha256.{sha256}
+use Rattle.lms_tree.specs.Verifying.{verifies}
 use Rattle.team_sets.specs.Names.{Name, name_lt}
 use Rattle.tg_text.specs.Spelling.{spell_decimal, spell_hex, spell_base64, spell_key_id, line_of, is_user_name, AreBytes, IsHash, IsPublicKey}
 use Rattle.tg_text.specs.declared.keys.KeyId.{KeyId}
@@ -10,6 +11,7 @@ use Rattle.tg_text.specs.declared.keys.BoxLine.{BoxLine}
 use Rattle.acts.specs.ActText.{act_words, IsActInRange, IsFound}
 use Rattle.acts.specs.declared.entry.Act.{Act}
 use Rattle.team_model.specs.declared.terms.Link.{Link}
+use Rattle.link_text.specs.ReadYet.{is_read_yet}
 
 -- the lines of a link, each a list of fields
 abbrev pub first_line : List (List ℕ)
@@ -72,6 +74,7 @@ pub record IsWellFormed (l : Link) : Type 0 where
   pub parents_ascend : Ascends l.prev
   pub root_without_parents : (l.prev ≡ []) ↔ IsNone l.team
   pub root_founds : (l.prev ≡ []) ↔ IsFound l.entry.act
+  pub read_yet : IsTrue (is_read_yet l.entry.act)
   pub user : IsTrue (is_user_name l.entry.user)
   pub key : IsPublicKey l.key
   pub device : l.entry.device ≡ sha256 l.key
@@ -101,6 +104,7 @@ pub record KeepsRules (l : Link) : Type 0 where
   pub parents_ascend : Ascends l.prev
   pub root_without_parents : (l.prev ≡ []) ↔ IsNone l.team
   pub root_founds : (l.prev ≡ []) ↔ IsFound l.entry.act
+  pub read_yet : IsTrue (is_read_yet l.entry.act)
 
 -- the bytes are the text of the link, and its name is their SHA-256
 pub record Reads (bytes : List ℕ) (l : Link) : Type 0 where
@@ -108,14 +112,24 @@ pub record Reads (bytes : List ℕ) (l : Link) : Type 0 where
   pub well_formed : IsWellFormed l
   pub name : l.name ≡ sha256 bytes
 
+-- whether the signature verifies over the body under the author's key. What else a link has to prove joins it here
+abbrev pub proves : Link → Bool
+proves l = verifies l.key (body l) l.signature
+
+-- the bytes are the link: they are its text, and it proves what it says
+pub record IsLink (bytes : List ℕ) (l : Link) : Type 0 where
+  pub reads : Reads bytes l
+  pub proved : proves l ≡ true
+
 -- the link is of the team: it names it, or it is the root whose name it is
 abbrev pub IsOfTeam : Name → Link → Type 0
 IsOfTeam t l = MatchOption l.team (l.name ≡ t) (λ named. named ≡ t)
 
--- the bytes are the text of a link of the team
+-- the bytes are valid for the team: they are a link of it
 pub record IsValid (t : Name) (bytes : List ℕ) (l : Link) : Type 0 where
   pub reads : Reads bytes l
   pub of_team : IsOfTeam t l
+  pub proved : proves l ≡ true
 
 -- a text has one link: each well-formed link has a spelling of its own
 abbrev pub LinkIsSpelledOnce : Type 0

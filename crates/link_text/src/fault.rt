@@ -1,6 +1,7 @@
 ghost use Rattle.std.specs.Prelude.{◌≡◌};
-ghost use Rattle.link_text.specs.Faults.{as_text_fault};
+ghost use Rattle.link_text.specs.Faults.{as_link_fault, as_text_fault};
 ghost use Rattle.link_text.specs.declared.fault.LineFault.TheVariants.{Memory as no_memory};
+ghost use Rattle.link_text.specs.declared.fault.LinkFault.TheVariants as of_link;
 
 use tg_text::Memory;
 use thiserror::Error;
@@ -14,6 +15,22 @@ pub enum TextFault {
     /// No link has this text.
     #[error("the text is no link's")]
     BadText,
+    #[error("out of memory")]
+    Memory,
+}
+
+/// Why a text isn't a link.
+#[derive(Clone, Copy, Debug, PartialEq, Eq, Error)]
+pub enum LinkFault {
+    /// More than 1,048,576 bytes.
+    #[error("the text is too long")]
+    TooLong,
+    /// No link has this text.
+    #[error("the text is no link's")]
+    BadText,
+    /// The text is a link's, and its signature doesn't verify under its key.
+    #[error("the signature doesn't verify")]
+    BadSignature,
     #[error("out of memory")]
     Memory,
 }
@@ -41,5 +58,25 @@ impl From<LineFault> for TextFault {
             LineFault::BadText => TextFault::BadText,
             LineFault::Memory => TextFault::Memory,
         }
+    }
+}
+
+impl From<TextFault> for LinkFault {
+    ghost from_gives = { λ fault e. e ≡ as_link_fault fault };
+
+    fn from(fault: TextFault) -> Self {
+        match fault {
+            TextFault::TooLong => LinkFault::TooLong,
+            TextFault::BadText => LinkFault::BadText,
+            TextFault::Memory => LinkFault::Memory,
+        }
+    }
+}
+
+impl From<Memory> for LinkFault {
+    ghost from_gives = { λ _ e. e ≡ of_link.Memory };
+
+    fn from(_: Memory) -> Self {
+        LinkFault::Memory
     }
 }

@@ -1,26 +1,37 @@
-//! The text of a link.
+//! The text of a link: reading it, verifying it and writing it.
 //!
-//! `specs/LinkText.antt` says how a link is spelled, which links are well-formed, and of which team a link is. What
-//! `read_text` gives is a well-formed link with this text, and every such link is given. All who take links from outside
-//! stand on it.
+//! `specs/LinkText.antt` says how a link is spelled, which links are well-formed, whose signature verifies, and of which team a
+//! link is. What `read_text` gives is a well-formed link with this text, and every such link is given; `read_link` gives those
+//! that verify. All who take links from outside stand on them. An author signs what `body_of` gives, and `finish` makes the text.
 //!
-//! A new act costs nothing here: `acts` reads and spells it. A new kind of line costs a reader of two lines in `next`,
-//! whose proof is one call of `takes`, and a step where the lines stand in their order: in `body`, in `read_fields`, and in
-//! the lemmas on the parts of a text. A kind that may be repeated costs a loop as that of the parents.
+//! A new act costs a clause in `specs/ReadYet.antt`, which says what links may have so far, and an arm in `rules`; `acts`
+//! reads and spells it. A new kind of line costs a reader of two lines in `next`, whose proof is one call of `takes`, and a
+//! step where the lines stand in their order: in `body`, in `read_fields`, and in the lemmas on the parts of a text. A kind
+//! that may be repeated costs a loop as that of the parents.
 #![tactic(auto)]
 
+mod draft;
 mod fault;
 mod laws;
 mod naming;
 mod next;
+mod of_team;
+mod proving;
 mod reading;
 mod rules;
+mod writing;
 
-pub use fault::TextFault;
+pub use draft::Draft;
+pub use fault::{LinkFault, TextFault};
 pub use laws::{file_is_of_set, link_is_spelled_once};
 pub use naming::name_of;
+pub use of_team::is_of_team;
+pub use proving::{proves, read_link};
 pub use reading::read_text;
 pub use team_model::Link;
+pub use writing::{body_of, finish, write_link};
 
+#[cfg(test)]
+mod proving_tests;
 #[cfg(test)]
 mod tests;

@@ -236,6 +236,10 @@ fn malformed_ends(rt: HostRuntime) -> Result<(), Fail> {
         ("act title Low tide", "act title Low\ttide"),
         ("act title Low tide", "act title Low\u{7f}tide"),
         ("act title Low tide", "act rename Low tide"),
+        ("act title Low tide", "act seal"),
+        ("act title Low tide", "act give_role bo editor"),
+        ("act title Low tide", "act remove_member bo"),
+        ("act title Low tide", "act rotate team"),
         (
             "act title Low tide\n",
             "act title Low tide\nnew team/0/deb0e38ced1e41de6f92e70e80c418d2d356afaaa99e26f5939dbc7d3ef4772a\n",

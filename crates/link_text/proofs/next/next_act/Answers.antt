@@ -1,6 +1,6 @@
 use Rattle.std.proofs.Common.{codes}
 use Rattle.acts.specs.ActText.{IsActInRange, spell_act}
-use Rattle.acts.proofs.Cuts.{act_lacks}
+use Rattle.acts.proofs.ActLaws.{act_lacks}
 use Rattle.link_text.proofs.Lines.{takes}
 use Rattle.link_text.proofs.next.next_act.Goals as goal
 

@@ -1,0 +1,50 @@
+//! Whether a link proves what it says.
+ghost use Rattle.std.specs.Prelude.{◌≡◌, ◌<◌, ◌↔◌, length, IfOk, Err};
+ghost use Rattle.link_text.specs.Faults.{GivesLink, IsBadText, IsExact, IsUnproved};
+ghost use Rattle.link_text.specs.LinkText.{IsLink, Reads, body, proves};
+ghost use Rattle.link_text.specs.declared.fault.LinkFault.TheVariants.{TooLong, BadText, BadSignature};
+ghost use Rattle.team_model.specs.declared.terms.Link.{Link};
+
+use crate::fault::LinkFault;
+use crate::reading::read_text;
+use lms_tree::verify;
+use std::alloc::Global;
+use team_model::Link;
+use tg_text::Memory;
+
+// What stands around the signature in its line: the word `sign`, a space and the newline.
+const AROUND: usize = 6;
+
+/// The link that a text is, whose signature verifies. The signature is verified once, in place.
+pub fn read_link(alloc: Global, bytes: &[u8]) -> Result<Link, LinkFault>
+    ensures found { IfOk result (λ l. IsLink bytes.now l) }
+    ensures only { (l : Link) → IsLink bytes.now l → GivesLink l result }
+    ensures too_long { (result ≡ Err TooLong) ↔ (1048576 < length bytes.now) }
+    ensures bad_text { IsExact BadText (IsBadText bytes.now) result }
+    ensures bad_signature { IsExact BadSignature (IsUnproved bytes.now) result }
+{
+    let link = read_text(alloc, bytes)?;
+    if proves(alloc, &link, bytes)? {
+        Ok(link)
+    } else {
+        Err(LinkFault::BadSignature)
+    }
+}
+
+/// Whether the signature of a link with this text verifies over its body, under its key.
+pub fn proves(_alloc: Global, link: &Link, bytes: &[u8]) -> Result<bool, Memory>
+    requires { Reads bytes.now link.now }
+    ensures { IfOk result (λ proved. proved ≡ proves link.now) }
+{
+    let body = signed_part(link, bytes);
+    Ok(verify(link.key.as_slice(), body, link.signature.as_slice()))
+}
+
+// All before the line of the signature, which ends the text: its length is that of the signature in base64, and six.
+fn signed_part<'a>(link: &Link, bytes: &'a [u8]) -> &'a [u8]
+    requires { Reads bytes.now link.now }
+    ensures { result.now ≡ body link.now }
+{
+    let digits = link.signature.len().div_ceil(3) * 4;
+    bytes.split_at(bytes.len() - (digits + AROUND)).0
+}
