@@ -1,0 +1,12 @@
+pub mod Exactly
+pub mod Facts
+pub mod Fitting
+pub mod HeadNames
+pub mod Kin
+pub mod Lining
+pub mod Names
+pub mod NextOnes
+pub mod Rows
+pub mod Sizing
+pub mod Waits
+pub mod Webbing

@@ -1,0 +1,12 @@
+pub mod Faults
+pub mod Graphs
+pub mod Heads
+pub mod Held
+pub mod Holds
+pub mod Kin
+pub mod Lines
+pub mod Positions
+pub mod Sizes
+pub mod Taking
+pub mod Waiting
+pub mod Webs

@@ -1,0 +1,264 @@
+ghost use Rattle.std.specs.Prelude.{◌≡◌, ◌<◌, ◌≤◌, ◌++◌, [], ◌∷◌, ◌↔◌, ℕ, List, length, take, position, true, false, Some, slice_get, option_map, filter_map, All, IsTrue, IfErr, IfOk, OnErr, OnOk, Ok, Err};
+ghost use Rattle.team_sets.specs.Names.{has_name, same_name};
+ghost use Rattle.team_sets.specs.Order.{names};
+ghost use Rattle.team_model.specs.Judging.{name_of, order_of};
+ghost use Rattle.link_text.specs.Faults.{IsBadText};
+ghost use Rattle.link_text.specs.LinkText.{IsValid, text};
+ghost use Rattle.link_text.specs.TeamFile.{IsHeld, file_text};
+ghost use Rattle.link_graph.specs.Faults.{IsExact};
+ghost use Rattle.link_graph.specs.Heads.{heads_of};
+ghost use Rattle.link_graph.specs.Held.{answer_of, arrived_of};
+ghost use Rattle.link_graph.specs.Holds.{text_named};
+ghost use Rattle.link_graph.specs.Positions.{at_places};
+ghost use Rattle.link_graph.specs.Taking.{Clashes, HasSpace, HasText, IsFresh, IsFull, IsOfOther, IsRoomFault, IsTaken, IsUnverified};
+ghost use Rattle.link_graph.specs.Webs.{without_last};
+
+use crate::connected::link_of;
+use crate::measuring::{frame_length, header_length};
+use crate::take_fault::TakeFault;
+use crate::taking::{has_text, read_of_team};
+use crate::took::Took;
+use crate::web::Web;
+use std::alloc::Global;
+use std::marker::Model;
+use team_model::Link;
+use tg_text::{LinkName, Memory};
+
+// How many links a team may have.
+const MAX_LINKS: usize = 16_384;
+
+// How many bytes a team file may have.
+const MAX_BYTES: u64 = 268_435_456;
+
+/// The held links of a team, connected as far as their parents are there.
+#[derive(Drop)]
+pub struct Graph {
+    alloc: Global,
+    team: LinkName,
+    web: Web,
+    bytes: u64,
+}
+
+impl Model for Graph {
+    ghost use Rattle.link_graph.specs.Held.{Held};
+    ghost use Rattle.link_graph.specs.Graphs.{IsGraph};
+
+    ghost Value = { Held };
+
+    ghost view = { λ it. record { team = it.team; links = it.web.holding } };
+
+    ghost invariant = { λ it. IsGraph it.team it.web it.bytes };
+}
+
+impl Graph {
+    /// A graph without links, for the team whose root has this name. The allocator is kept for those to come.
+    pub fn new(alloc: Global, team: LinkName) -> Graph
+        ensures { result ≡ record { team = team; links = [] } }
+    {
+        Graph {
+            alloc,
+            team,
+            web: Web::new(alloc),
+            bytes: header_length(&team),
+        }
+    }
+
+    /// The name of the team's root.
+    pub fn team(&self) -> LinkName
+        ensures { result ≡ self.now.team }
+    {
+        self.team
+    }
+
+    /// How many links are held.
+    pub fn held(&self) -> u32
+        ensures { result ≡ length self.now.links }
+    {
+        self.web.holding.len() as u32
+    }
+
+    /// How many bytes the team file of the held links has.
+    pub fn file_bytes(&self) -> u64
+        ensures { result ≡ length (file_text self.now.team self.now.links) }
+    {
+        self.bytes
+    }
+
+    /// The held links, in the order in which they were taken.
+    pub fn links(&self) -> &[Link]
+        ensures { result.now ≡ self.now.links }
+    {
+        self.web.holding.links()
+    }
+
+    /// What is held is a set of valid links of the team, within the limits of a team. This says so, and does nothing.
+    pub fn is_held(&self)
+        ensures { IsHeld self.now.team self.now.links }
+    {
+        let _ = self.team.as_slice();
+    }
+
+    /// How many links are connected: positions are the numbers below.
+    pub fn connected(&self) -> u32
+        ensures { result ≡ length (arrived_of self.now.links) }
+    {
+        self.web.connected.len() as u32
+    }
+
+    /// The name of the link that was taken after so many others.
+    pub fn held_name(&self, at: u32) -> LinkName
+        requires held { at < length self.now.links }
+        ensures { slice_get (names name_of self.now.links) at ≡ Some result }
+    {
+        self.links()[at as usize].name
+    }
+
+    /// Whether a link of this name is held.
+    pub fn holds(&self, name: &LinkName) -> bool
+        ensures { result ≡ has_name (names name_of self.now.links) name.now }
+    {
+        self.web.holding.holds(name)
+    }
+
+    /// The position of the link of this name, where it is connected.
+    pub fn position(&self, name: &LinkName) -> Option<u32>
+        ensures { result ≡ position (same_name name.now) (names name_of (arrived_of self.now.links)) }
+    {
+        match self.web.connected.position(name) {
+            Some(position) => Some(position as u32),
+            None => None,
+        }
+    }
+
+    /// The text of the link of this name, where it is held.
+    pub fn text_of(&self, name: &LinkName) -> Option<&[u8]>
+        ensures { option_map (λ t. t.now) result ≡ text_named self.now.links name.now }
+    {
+        self.web.holding.text_of(name)
+    }
+
+    /// The link of a position.
+    pub fn link_at(&self, position: u32) -> &Link
+        requires given { position < length (arrived_of self.now.links) }
+        ensures { slice_get (arrived_of self.now.links) position ≡ Some result.now }
+    {
+        link_of(self.links(), self.web.connected.place_at(position as usize))
+    }
+
+    /// The place of the link of a position among the held links.
+    pub fn place_at(&self, position: u32) -> usize
+        requires given { position < length (arrived_of self.now.links) }
+        ensures { slice_get self.now.links result ≡ slice_get (arrived_of self.now.links) position }
+    {
+        self.web.connected.place_at(position as usize)
+    }
+
+    /// The positions of the connected links, in the order of the team.
+    pub fn order(&self) -> &[u32]
+        ensures order { at_places (arrived_of self.now.links) result.now ≡ order_of self.now.links }
+        ensures given { All (λ p. p < length (arrived_of self.now.links)) result.now }
+    {
+        self.web.lineup.order.as_slice()
+    }
+
+    /// The names of those connected links that are no connected link's parent, in ascending order.
+    pub fn heads(&self) -> &[LinkName]
+        ensures { result.now ≡ heads_of self.now.links }
+    {
+        self.web.lineup.heads.as_slice()
+    }
+
+    // Whether there is room for one more link of the team, whose text has so many bytes.
+    fn admit(&self, link: &Link, len: usize) -> Result<(), TakeFault>
+        requires len { len ≡ length (text link.now) }
+        requires short { len ≤ 1048576 }
+        ensures fresh { IfOk result (λ _. IsFresh self.now.links link.now) }
+        ensures space { IfOk result (λ _. HasSpace self.now.team self.now.links link.now) }
+        ensures fault { IfErr result (λ fault. IsRoomFault self.now link.now fault) }
+    {
+        if self.holds(&link.name) {
+            return Err(TakeFault::NameClash { name: link.name });
+        }
+        let bytes = self.bytes + frame_length(len);
+        if self.links().len() >= MAX_LINKS || bytes > MAX_BYTES {
+            return Err(TakeFault::Full {
+                links: self.held(),
+                bytes: self.bytes,
+            });
+        }
+        Ok(())
+    }
+
+    // The link of a text that isn't held, where there is room for it.
+    fn read_new(&self, bytes: &[u8]) -> Result<Link, TakeFault>
+        requires new { ¬ (HasText self.now.links bytes.now) }
+        ensures valid { IfOk result (λ link. IsValid self.now.team bytes.now link) }
+        ensures fresh { IfOk result (λ link. IsFresh self.now.links link) }
+        ensures space { IfOk result (λ link. HasSpace self.now.team self.now.links link) }
+        ensures too_long { (result ≡ Err TakeFault.TooLong) ↔ (1048576 < length bytes.now) }
+        ensures bad_text { IsExact TakeFault.BadText (IsBadText bytes.now) result }
+        ensures other_team { IsExact TakeFault.OtherTeam (IsOfOther self.now.team bytes.now) result }
+        ensures bad_signature { IsExact TakeFault.BadSignature (IsUnverified self.now.team bytes.now) result }
+        ensures name_clash { (n : List ℕ) → IsExact (TakeFault.NameClash n) (Clashes self.now bytes.now n) result }
+        ensures full { (held size : ℕ) → IsExact (TakeFault.Full held size) (IsFull self.now bytes.now held size) result }
+    {
+        match read_of_team(self.alloc, bytes, &self.team) {
+            Ok(link) => match self.admit(&link, bytes.len()) {
+                Ok(()) => Ok(link),
+                Err(fault) => Err(fault),
+            },
+            Err(fault) => Err(fault),
+        }
+    }
+
+    /// Holds a link that was read already: a new one of the team, for which there is room. It isn't verified again.
+    ///
+    /// Where memory is short all is as before.
+    pub fn hold(&mut self, bytes: &[u8], link: Link) -> Result<Took, Memory>
+        requires valid { IsValid self.old.team bytes.now link }
+        requires fresh { IsFresh self.old.links link }
+        requires space { HasSpace self.old.team self.old.links link }
+        ensures ok { OnOk result (self.new ≡ record self.old { links = self.old.links ++ link ∷ [] }) }
+        ensures answer { IfOk result (λ took. took ≡ answer_of self.old.links (self.old.links ++ link ∷ [])) }
+        ensures err { OnErr result (self.new ≡ self.old) }
+    {
+        let took = self.web.put(self.alloc, bytes, link)?;
+        self.bytes += frame_length(bytes.len());
+        Ok(took)
+    }
+
+    /// Takes the text of a link. After a fault all is as before. A text that is held is answered without memory.
+    pub fn take(&mut self, bytes: &[u8]) -> Result<Took, TakeFault>
+        ensures taken { IfOk result (λ took. IsTaken self.old self.new bytes.now took) }
+        ensures again { HasText self.old.links bytes.now → result ≡ Ok Took.Again }
+        ensures fault { OnErr result (self.new ≡ self.old) }
+        ensures too_long { (result ≡ Err TakeFault.TooLong) ↔ (1048576 < length bytes.now) }
+        ensures bad_text { IsExact TakeFault.BadText (IsBadText bytes.now) result }
+        ensures other_team { IsExact TakeFault.OtherTeam (IsOfOther self.old.team bytes.now) result }
+        ensures bad_signature { IsExact TakeFault.BadSignature (IsUnverified self.old.team bytes.now) result }
+        ensures name_clash { (n : List ℕ) → IsExact (TakeFault.NameClash n) (Clashes self.old bytes.now n) result }
+        ensures full { (held size : ℕ) → IsExact (TakeFault.Full held size) (IsFull self.old bytes.now held size) result }
+    {
+        if has_text(&self.web.holding, bytes) {
+            return Ok(Took::Again);
+        }
+        match self.read_new(bytes) {
+            Ok(link) => {
+                let took = self.hold(bytes, link)?;
+                Ok(took)
+            }
+            Err(fault) => Err(fault),
+        }
+    }
+
+    /// Lets go of the text that was taken last. It takes no memory.
+    pub fn undo(&mut self, connected: u32)
+        requires held { 0 < length self.old.links }
+        requires connected { connected ≡ length (arrived_of (without_last self.old.links)) }
+        ensures { self.new ≡ record self.old { links = without_last self.old.links } }
+    {
+        let frame = frame_length(self.web.holding.last_len());
+        self.bytes -= frame;
+        self.web.take_out(connected as usize);
+    }
+}
