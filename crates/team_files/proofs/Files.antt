@@ -42,7 +42,7 @@ ascends_tail : (x : Link) (xs : List Link) → Ascends (map name_of (x ∷ xs)) 
 ascends_tail x [] a = tt
 ascends_tail x (y ∷ ys) a = a.1
 
-to_ascending : (links : List Link) → Ascends (map name_of links) → IsAscending (by_names name_of) links
+pub to_ascending : (links : List Link) → Ascends (map name_of links) → IsAscending (by_names name_of) links
 to_ascending [] a = tt
 to_ascending (x ∷ xs) a = (up_from x xs a, to_ascending xs (ascends_tail x xs a))
 

@@ -1,4 +1,12 @@
+pub mod ComingItems
+pub mod Digits
 pub mod Files
+pub mod Fronts
+pub mod Growing
+pub mod ItemLists
+pub mod ItemTexts
+pub mod Joining
 pub mod Lines
+pub mod Named
 pub mod Once
 pub mod Runs

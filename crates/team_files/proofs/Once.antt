@@ -19,19 +19,19 @@ use Rattle.team_files.proofs.Lines.{header_line, frame_line}
 use Rattle.team_files.proofs.Runs.{short}
 use Rattle.team_files.proofs.Files.{in_order}
 
-header_once : (t u : Name) (rest others : List ℕ) → IsHash t → IsHash u → header t ++ rest ≡ header u ++ others → (t ≡ u) × (rest ≡ others)
+pub header_once : (t u : Name) (rest others : List ℕ) → IsHash t → IsHash u → header t ++ rest ≡ header u ++ others → (t ≡ u) × (rest ≡ others)
 header_once t u rest others is so e =
     let line = header_line (header_fields t) rest u others (hex_lacks 10 t refl) (sym (append_assoc (header_fields t) (10 ∷ []) rest) ∙ e) in
     (hex_once t u is.bytes so.bytes (append_cancel_left (codes "team-file 1 ") (spell_hex t) (spell_hex u) line.0), line.1)
 
 -- texts of one length that begin one list are one
-front_once : (a b x y : List ℕ) → length a ≡ length b → a ++ x ≡ b ++ y → (a ≡ b) × (x ≡ y)
+pub front_once : (a b x y : List ℕ) → length a ≡ length b → a ++ x ≡ b ++ y → (a ≡ b) × (x ≡ y)
 front_once a b x y same e = (
   sym (take-append_seam a x) ∙ ap (take (length a)) e ∙ ap (λ n. take n (b ++ y)) same ∙ take-append_seam b y,
   sym (drop-append_seam a x) ∙ ap (drop (length a)) e ∙ ap (λ n. drop n (b ++ y)) same ∙ drop-append_seam b y,
 )
 
-frame_once : (a b rest others : List ℕ) → length a < 2 ^ 64 → length b < 2 ^ 64 → frame a ++ rest ≡ frame b ++ others → (a ≡ b) × (rest ≡ others)
+pub frame_once : (a b rest others : List ℕ) → length a < 2 ^ 64 → length b < 2 ^ 64 → frame a ++ rest ≡ frame b ++ others → (a ≡ b) × (rest ≡ others)
 frame_once a b rest others small few e =
     let fields = length_fields (length a) in
     let line = frame_line fields (a ++ rest) b others few (decimal_lacks 10 (length a) refl small)

@@ -1,12 +1,14 @@
 -- The frames of a team file, and what reading them answers.
 use Rattle.std.specs.Prelude.{◌≡◌, ℕ, ◌<◌, ◌≤◌, List, [], ◌∷◌, length, map, codes, flat_map, IsTrue, Result, Ok, Err}
 use Rattle.std.specs.List.{AllByRecursion}
+use Rattle.std.specs.Option.{option_map_or}
 use Rattle.tg_text.specs.Spelling.{spell_decimal, spell_hex, spaced}
 use Rattle.team_sets.specs.Names.{Name, name_lt}
 use Rattle.team_model.specs.Judging.{name_of}
 use Rattle.team_model.specs.declared.terms.Link.{Link}
 use Rattle.link_text.specs.LinkText.{text, Ascends, IsValid}
 use Rattle.link_text.specs.TeamFile.{frame}
+use Rattle.link_graph.specs.Holds.{text_named}
 use Rattle.team_files.specs.declared.fault.FileFault.{FileFault}
 use Rattle.team_files.specs.declared.fault.FileFault.TheVariants.{BadFile, Memory}
 
@@ -21,6 +23,14 @@ length_fields n = spaced (codes "link" ∷ spell_decimal n ∷ [])
 -- the frames of links, one behind the other
 abbrev pub frames : List Link → List ℕ
 frames links = flat_map (λ l. frame (text l)) links
+
+-- the frame of the text of this name, if it is held
+abbrev pub frame_named : List Link → Name → List ℕ
+frame_named links n = option_map_or frame (text_named links n) []
+
+-- the frames of the texts of names, one behind the other
+abbrev pub frames_named : List Link → List Name → List ℕ
+frames_named links ns = flat_map (frame_named links) ns
 
 -- the name is behind that of the last link, if there is one
 abbrev pub IsBefore : List Link → Name → Type 0

@@ -16,8 +16,8 @@ pub fn next_header(lines: &mut Lines) -> Option<LinkName>
     read_header(line)
 }
 
-// The team that a header's line names.
-fn read_header(line: &[u8]) -> Option<LinkName>
+/// The team that a header's line names.
+pub fn read_header(line: &[u8]) -> Option<LinkName>
     ensures { Reads IsHash header_fields line.now result }
 {
     let digits = line.strip_prefix(b"team-file 1 ")?;
@@ -42,8 +42,8 @@ pub fn split_frame(bytes: &[u8]) -> Option<(&[u8], &[u8])>
     Some(rest.split_at(length as usize))
 }
 
-// The length that a frame's line names.
-fn read_length(line: &[u8]) -> Option<u64>
+/// The length that a frame's line names.
+pub fn read_length(line: &[u8]) -> Option<u64>
     ensures { Reads (λ n. n < 2 ^ 64) length_fields line.now result }
 {
     read_decimal(line.strip_prefix(b"link ")?)

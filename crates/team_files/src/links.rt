@@ -1,11 +1,11 @@
-//! The links of a team file: each is of the team, and each stands behind the one whose name is before its own.
+//! The links of a team file: each is of the team and verifies, and each stands behind the one whose name is before its own.
 ghost use Rattle.std.specs.Prelude.{◌≡◌, ◌↔◌, [], ◌∷◌, ◌++◌, IsTrue, IfOk, OnOk, Err};
-ghost use Rattle.link_text.specs.LinkText.{IsOfTeam, IsValid};
+ghost use Rattle.link_text.specs.LinkText.{IsValid};
 ghost use Rattle.team_files.specs.Frames.{Gives, IsBefore, MayFollow};
 ghost use Rattle.team_model.specs.declared.terms.Link.{Link};
 
 use crate::fault::FileFault;
-use link_text::{TextFault, read_text};
+use link_text::{LinkFault, is_of_team, read_link};
 use std::alloc::Global;
 use team_model::Link;
 use tg_text::{Items, LinkName};
@@ -13,12 +13,12 @@ use tg_text::{Items, LinkName};
 // How many links a team may have.
 const MAX_LINKS: usize = 16384;
 
-/// The link that a text is, where it is one of the team.
+/// The link that a text is, where it is one of the team. Its signature is verified here, and nowhere again.
 pub fn read_link_of(alloc: Global, team: &LinkName, bytes: &[u8]) -> Result<Link, FileFault>
     ensures found { IfOk result (λ link. IsValid team.now bytes.now link) }
     ensures only { (link : Link) → IsValid team.now bytes.now link → Gives link result }
 {
-    match read_text(alloc, bytes) {
+    match read_link(alloc, bytes) {
         Ok(link) => {
             if is_of_team(&link, team) {
                 Ok(link)
@@ -26,18 +26,8 @@ pub fn read_link_of(alloc: Global, team: &LinkName, bytes: &[u8]) -> Result<Link
                 Err(FileFault::BadFile)
             }
         }
-        Err(TextFault::Memory) => Err(FileFault::Memory),
+        Err(LinkFault::Memory) => Err(FileFault::Memory),
         Err(_) => Err(FileFault::BadFile),
-    }
-}
-
-// Whether a link is of the team.
-fn is_of_team(link: &Link, team: &LinkName) -> bool
-    ensures { IsTrue result ↔ IsOfTeam team.now link.now }
-{
-    match &link.team {
-        Some(named) => named == team,
-        None => &link.name == team,
     }
 }
 
@@ -47,11 +37,18 @@ pub fn add_link(links: &mut Items<Link>, link: Link) -> Result<(), FileFault>
     ensures may { OnOk result (MayFollow links.old link) }
     ensures bad { result ≡ Err FileFault.BadFile → ¬ MayFollow links.old link }
 {
-    if links.len() >= MAX_LINKS || !is_before(links.as_slice(), &link.name) {
+    if !may_follow(links.as_slice(), &link) {
         return Err(FileFault::BadFile);
     }
     links.push(link)?;
     Ok(())
+}
+
+/// Whether a further link may stand behind the links: the team has room for it, and the names ascend.
+pub fn may_follow(links: &[Link], link: &Link) -> bool
+    ensures { IsTrue result ↔ MayFollow links.now link.now }
+{
+    links.len() < MAX_LINKS && is_before(links, &link.name)
 }
 
 // Whether the last of the links, if there is one, is before the name.
