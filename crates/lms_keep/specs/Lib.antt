@@ -1,3 +1,4 @@
 pub mod KeyText
+pub mod Making
 pub mod Signing
 pub mod Takes

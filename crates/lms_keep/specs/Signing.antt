@@ -3,6 +3,8 @@ use Rattle.std.specs.Prelude.{◌≡◌, ◌≢◌, ◌<◌, ◌⊎◌, ◌+◌,
 use Rattle.std.specs.Option.{option_map_or}
 use Rattle.std.specs.FinMap as map
 use Rattle.tg_outside.specs.Contents.{FileMap}
+use Rattle.tg_outside.specs.declared.fault.Fault.{Fault}
+use Rattle.tg_outside.specs.declared.fault.Fault.TheVariants.{Failed, Memory as NoMemory}
 use Rattle.lms_ots.specs.Kinds.{ots_kind}
 use Rattle.lms_ots.specs.declared.kind.OtsKind.TheVariants.{W1}
 use Rattle.lms_tree.specs.LmsKinds.{lms_kind}
@@ -35,6 +37,16 @@ moved m name s = map.insert m name (key_text (advanced s))
 -- the signature of a leaf over a message, with its key
 abbrev pub signed_by : TreeKey → ℕ → List ℕ → Signed
 signed_by key leaf message = record { key = public_key key; leaf = leaf; signature = signature_of key leaf message }
+
+-- What is made of the file of a key in its ranges, for a caller who knows a public key: a signature by the leaf that is next comes
+-- exactly where the file's key is that one and a leaf is left, and with it the file bears the leaf after. What comes where it isn't
+-- may have moved the file's own key on.
+abbrev pub SignsFor : FileMap → List ℕ → List ℕ → KeyState → List ℕ → Option FileMap → Result (Option (List ℕ)) Fault → Type 0
+SignsFor m name key s message new (Ok (Some signature)) =
+    (public_key (tree_key s) ≡ key) × (s.next < leaves s.lms) × (new ≡ Some (moved m name s)) × (signature ≡ signature_of (tree_key s) s.next message)
+SignsFor m name key s message new (Ok None) = ((public_key (tree_key s) ≢ key) ⊎ (s.next ≡ leaves s.lms)) × ((new ≡ Some m) ⊎ (new ≡ Some (moved m name s)))
+SignsFor m name key s message new (Err Failed) = (new ≡ Some m) ⊎ (new ≡ Some (moved m name s))
+SignsFor m name key s message new (Err NoMemory) = new ≡ Some m
 
 -- By the bytes of the file, where it is there: what `new` holds of the files `m` after the answer.
 abbrev pub SignsAs : FileMap → Option (List ℕ) → List ℕ → List ℕ → Option FileMap → Result Signed SignFault → Type 0

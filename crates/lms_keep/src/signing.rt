@@ -8,6 +8,7 @@ ghost use Rattle.lms_keep.specs.Signing.{SignsAs, advanced, signed_by, tree_key}
 
 use crate::fault::SignFault;
 use crate::key_state::KeyState;
+use crate::turn::{Turn, advance};
 use lms_tree::Tree;
 use std::alloc::Global;
 use tg_outside::{Fault, Files};
@@ -58,8 +59,8 @@ pub fn sign_next<F: Files>(
     let Ok(signer) = prepare(alloc, &state) else {
         return Err(SignFault::Memory);
     };
-    match files.replace(alloc, name, signer.text.as_slice()) {
-        Ok(()) => Ok(sign_with(signer, state.next, message)),
+    match advance(alloc, files, name, signer.text.as_slice(), state.next) {
+        Ok(turn) => Ok(sign_with(signer, turn, message)),
         Err(Fault::Failed) => Err(SignFault::WriteFault),
         Err(Fault::Memory) => Err(SignFault::Memory),
     }
@@ -83,14 +84,15 @@ fn prepare(alloc: Global, state: &KeyState) -> Result<Signer, Memory>
     Ok(Signer { tree, text, room })
 }
 
-// Signs with a leaf, without memory.
-fn sign_with(signer: Signer, leaf: u32, message: &[u8]) -> Signed
-    requires left { leaf < leaves_of signer.tree.lms }
+// Signs with the leaf whose turn it is, without memory.
+fn sign_with(signer: Signer, turn: Turn, message: &[u8]) -> Signed
+    requires left { turn.leaf < leaves_of signer.tree.lms }
     requires room { length signer.room.items ≡ lms_length signer.tree.lms signer.tree.ots }
-    ensures signed { result ≡ signed_by signer.tree leaf message.now }
+    ensures signed { result ≡ signed_by signer.tree turn.leaf message.now }
     ensures verifies { IsTrue (verifies result.key message.now result.signature) }
 {
     let Signer { tree, mut room, .. } = signer;
+    let leaf = turn.take();
     tree.sign_into(leaf, message, room.as_mut_slice());
     Signed {
         key: tree.public(),

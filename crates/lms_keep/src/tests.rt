@@ -1,9 +1,10 @@
-use crate::{KeyState, SignFault, sign_next};
+use crate::{KeyState, SignFault, make_key, sign_known, sign_next};
 use hex::FromHex;
 use sha2::{Digest, Sha256};
 use std::alloc::Global;
 use std::test::Fail;
-use tg_outside::{Files, MemoryFiles};
+use tg_outside::{Fault, Files, ListEntropy, MakeFault, MemoryFiles};
+use tg_text::{PublicKey, UserName};
 
 // A key of Ann's of 32 leaves, of which the leaf 10 is next.
 const ANN: &str =
@@ -23,6 +24,14 @@ const PUBLIC: &str =
 
 // The SHA-256 of the signature of `abc` by its leaf 10, computed by the same.
 const SIGNATURE: &str = "151c96fd3cf0573026a28cc4e1ad25964595a33b54ada328a0e5358d5126f8fb";
+
+// A new key of Ann's, of a first word of bytes 0x11, a second of 0x22 and a third of 0x33.
+const MADE: &str =
+    "team-key 1\nuser ann\nkinds 6 3\nid 11111111111111111111111111111111\nseed 2222222222222222222222222222222222222222222222222222222222222222\nsecret 3333333333333333333333333333333333333333333333333333333333333333\nnext 0\n";
+
+// The public key of that key, computed by another implementation.
+const MADE_PUBLIC: &str =
+    "AAAABgAAAAMRERERERERERERERERERERSLjq4NB5D1RXa1MeI+Kf8y2qRlqf4MWTqfe8ZzDKa4g=";
 
 // Files in memory that hold a key file `k`, and of whose calls one is to fail.
 fn files_with(alloc: Global, text: &str, failing: u64) -> Result<MemoryFiles, Fail> {
@@ -122,6 +131,63 @@ fn nothing_is_signed_after_a_fault(rt: HostRuntime) -> Result<(), Fail> {
     match sign_next(alloc, &mut files, "k", b"abc") {
         Ok(signed) => assert_eq!(rt; signed.leaf, 10),
         Err(_) => assert!(rt; false),
+    }
+    Ok(())
+}
+
+#[test]
+fn a_key_is_made_of_three_words(rt: HostRuntime) -> Result<(), Fail> {
+    let alloc = rt.alloc();
+    let words = [[0x11; 32], [0x22; 32], [0x33; 32], [0x44; 32]];
+    let mut entropy = ListEntropy::new(&words, Vec::new(alloc));
+    let user = UserName::read(b"ann").ok_or("no user name")?;
+    let made = make_key(&mut entropy, user).ok().ok_or("no key")?;
+    assert!(rt; made.write(alloc)?.as_slice() == MADE.as_bytes());
+    Ok(())
+}
+
+// Each of the three draws fails in turn, by the list's end or by itself.
+#[test]
+fn no_key_is_made_of_fewer_words(rt: HostRuntime) -> Result<(), Fail> {
+    let alloc = rt.alloc();
+    let words = [[0x11; 32], [0x22; 32]];
+    let user = UserName::read(b"ann").ok_or("no user name")?;
+    for failing in [0, 1, 2, 9] {
+        let mut entropy = ListEntropy::new(&words, vec![in alloc; failing]?);
+        let made = make_key(&mut entropy, user);
+        assert_eq!(rt; made.err(), Some(MakeFault::EntropyFault));
+    }
+    Ok(())
+}
+
+// Read fails, then the replace; then the leaf that was next signs.
+#[test]
+fn a_known_key_signs(rt: HostRuntime) -> Result<(), Fail> {
+    let alloc = rt.alloc();
+    let state = KeyState::read(ANN.as_bytes()).ok_or("no key")?;
+    let public = state.public(alloc)?;
+    let mut files = MemoryFiles::new(alloc, vec![in alloc; 0, 2]?);
+    files.put(alloc, "k", ANN.as_bytes())?;
+    for _ in 0..2u32 {
+        let signed = sign_known(alloc, &mut files, "k", &public, b"abc");
+        assert!(rt; matches!(signed, Err(Fault::Failed)));
+        assert!(rt; holds(&files, ANN));
+    }
+    let signed = sign_known(alloc, &mut files, "k", &public, b"abc")?.ok_or("another key")?;
+    let digest = <[u8; 32] as FromHex>::from_hex(SIGNATURE)?;
+    assert!(rt; Sha256::digest(signed.as_slice()) == digest);
+    assert!(rt; holds(&files, ANN_AFTER));
+    Ok(())
+}
+
+#[test]
+fn another_key_signs_nothing(rt: HostRuntime) -> Result<(), Fail> {
+    let alloc = rt.alloc();
+    let public = PublicKey::read(MADE_PUBLIC.as_bytes()).ok_or("no key")?;
+    for text in [ANN, SPENT, "no key"] {
+        let mut files = files_with(alloc, text, 9)?;
+        assert!(rt; sign_known(alloc, &mut files, "k", &public, b"abc")?.is_none());
+        assert!(rt; sign_known(alloc, &mut files, "none", &public, b"abc")?.is_none());
     }
     Ok(())
 }
