@@ -1,8 +1,8 @@
 -- What becomes of a text that is given to a replica: it is taken, or why it isn't.
-use Rattle.std.specs.Prelude.{◌≡◌, ◌≤◌, ◌⊎◌, ℕ, List, [], ◌∷◌, ◌++◌, length, Result, Err}
+use Rattle.std.specs.Prelude.{◌≡◌, ◌⊎◌, ℕ, false, List, [], ◌∷◌, ◌++◌, Result, Err}
 use Rattle.team_sets.specs.Names.{Name}
 use Rattle.team_model.specs.declared.terms.Link.{Link}
-use Rattle.link_text.specs.LinkText.{IsOfTeam, IsValid, Reads}
+use Rattle.link_text.specs.LinkText.{IsOfTeam, IsValid, Reads, proves}
 use Rattle.replica.specs.Held.{Held, answer_of}
 use Rattle.replica.specs.declared.took.Took.{Took}
 use Rattle.link_text.specs.declared.fault.TextFault.{TextFault}
@@ -17,16 +17,18 @@ pub record Takes (old new : Held) (bytes : List ℕ) (took : Took) : Type 0 wher
   pub held : new ≡ record old { links = old.links ++ link ∷ [] }
   pub answer : took ≡ answer_of old.links new.links
 
--- the bytes aren't too long, and are no link's text
-pub record IsBadText (bytes : List ℕ) : Type 0 where
-  pub short : length bytes ≤ 1048576
-  pub no_link : (l : Link) → ¬ (Reads bytes l)
-
 -- the bytes are the text of a link that isn't of the team
 pub record IsOfOther (team : Name) (bytes : List ℕ) : Type 0 where
   pub link : Link
   pub reads : Reads bytes link
   pub other : ¬ (IsOfTeam team link)
+
+-- the bytes are the text of a link of the team that doesn't verify
+pub record IsUnverified (team : Name) (bytes : List ℕ) : Type 0 where
+  pub link : Link
+  pub reads : Reads bytes link
+  pub of_team : IsOfTeam team link
+  pub unproved : proves link ≡ false
 
 -- the fault comes exactly where its cause holds, unless memory is short
 pub record IsExact {T : Type 0} (fault : TakeFault) (cause : Type 0) (result : Result T TakeFault) : Type 0 where

@@ -19,7 +19,7 @@ pub(crate) fn permits(state: &TeamState, entry: &Entry) -> Result<(), Reason>
             is_listed(state, entry)?;
             is_by_admin(state, entry)
         }
-        Act::Join => is_listed(state, entry),
+        _ => is_listed(state, entry),
     }
 }
 
@@ -80,6 +80,6 @@ fn act(alloc: Global, state: &mut TeamState, entry: &Entry) -> Result<(), Memory
             state.set_title(*title);
             Ok(())
         }
-        Act::Join => Ok(()),
+        _ => Ok(()),
     }
 }

@@ -6,7 +6,8 @@ ghost use Rattle.team_sets.specs.OrderLaws.{IsSet};
 ghost use Rattle.team_model.specs.Judging.{name_of, order_of};
 ghost use Rattle.link_text.specs.LinkText.{IsValid, text};
 ghost use Rattle.sha2.specs.Sha256.{sha256};
-ghost use Rattle.replica.specs.Taking.{IsBadText, IsExact, IsOfOther, Takes};
+ghost use Rattle.link_text.specs.Faults.{IsBadText};
+ghost use Rattle.replica.specs.Taking.{IsExact, IsOfOther, IsUnverified, Takes};
 ghost use Rattle.replica.specs.Held.{answer_of, sight_of, took_of};
 
 use crate::looking::{answer, count_connected, look};
@@ -134,6 +135,7 @@ impl Replica {
         ensures too_long { (result ≡ Err TakeFault.TooLong) ↔ (1048576 < length bytes.now) }
         ensures bad_text { IsExact TakeFault.BadText (IsBadText bytes.now) result }
         ensures other_team { IsExact TakeFault.OtherTeam (IsOfOther self.old.team bytes.now) result }
+        ensures bad_signature { IsExact TakeFault.BadSignature (IsUnverified self.old.team bytes.now) result }
     {
         let link = read_of_team(alloc, bytes, &self.team)?;
         let took = self.insert_link(alloc, link, steps)?;

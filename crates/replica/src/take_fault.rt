@@ -11,6 +11,8 @@ pub enum TakeFault {
     BadText,
     #[error("the link is of another team")]
     OtherTeam,
+    #[error("the signature doesn't verify")]
+    BadSignature,
     #[error("out of memory")]
     Memory,
 }
