@@ -1,2 +1,4 @@
 pub mod Answered
 pub mod FileShown
+pub mod KnownKeys
+pub mod Newkeys

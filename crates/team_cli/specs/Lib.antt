@@ -1,3 +1,4 @@
+pub mod Newkey
 pub mod Running
 pub mod Show
 pub mod Words

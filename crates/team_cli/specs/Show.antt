@@ -1,5 +1,5 @@
 -- What `show FILE` does.
-use Rattle.std.specs.Prelude.{◌≡◌, ◌<◌, ℕ, List, ◌++◌, Option, Some, None, IfSome, codes}
+use Rattle.std.specs.Prelude.{◌≡◌, ◌<◌, ℕ, List, Option, Some, None, IfSome, codes}
 use Rattle.std.specs.FinMap as fin
 use Rattle.outcomes.specs.Steps.{World, Outcome, saying}
 use Rattle.outcomes.specs.Seeing.{Seen}
@@ -8,10 +8,7 @@ use Rattle.team_sets.specs.Names.{Name}
 use Rattle.team_model.specs.ShowText.{show_text}
 use Rattle.team_model.specs.declared.terms.Link.{Link}
 use Rattle.link_text.specs.TeamFile.{IsFileOf}
-
--- the line of a fault of a file
-abbrev pub fault_line : List ℕ → List ℕ → List ℕ
-fault_line name word = codes "fault " ++ name ++ codes " " ++ word ++ codes "\n"
+use Rattle.team_cli.specs.Words.{fault_line}
 
 -- the bytes are the file of a team's links, and the text is that of show of these links
 pub record IsShownAs (bytes text : List ℕ) : Type 0 where

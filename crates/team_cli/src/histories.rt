@@ -1,17 +1,13 @@
 //! Generated histories: a team is shown the same in whatever order its links came.
-use link_text::name_of;
+use link_text::{finish, name_of};
+use lms_tree::Tree;
 use replica::Replica;
 use std::alloc::Global;
 use std::process::Abort;
 use std::test::Fail;
 use team_report::show_text;
 use tg_outside::{Silent, Steps};
-use tg_text::{Bytes, LinkName, write_decimal, write_hex};
-
-const KEY: &str = "AAAABgAAAAMRERERERERERERERERERERSLjq4NB5D1RXa1MeI+Kf8y2qRlqf4MWTqfe8ZzDKa4g=";
-
-const OTHER_KEY: &str =
-    "AAAABgAAAAMSERERERERERERERERERERSLjq4NB5D1RXa1MeI+Kf8y2qRlqf4MWTqfe8ZzDKa4g=";
+use tg_text::{Bytes, LinkName, write_base64, write_decimal, write_hex};
 
 const SEAL: &str = "deb0e38ced1e41de6f92e70e80c418d2d356afaaa99e26f5939dbc7d3ef4772a";
 
@@ -35,6 +31,30 @@ impl Draws {
     }
 }
 
+// The keys of ann, and of somebody who isn't on the team.
+#[derive(Drop)]
+struct Keys {
+    own: Tree,
+    other: Tree,
+}
+
+fn make_keys(alloc: Global) -> Result<Keys, Fail> {
+    Ok(Keys {
+        own: Tree::make(alloc, 5, 3, &[0x11; 16], &[0x22; 32])?,
+        other: Tree::make(alloc, 5, 3, &[0x44; 16], &[0x55; 32])?,
+    })
+}
+
+// The text of a link, signed by the leaf of its number. A leaf signs more than one link here.
+fn sign(alloc: Global, tree: &Tree, n: u64, body: &[u8]) -> Result<Bytes, Fail> {
+    let leaf = (n % 32) as u32;
+    if leaf >= tree.leaves() {
+        return Err(Fail::from("no such leaf"));
+    }
+    let signature = tree.sign(alloc, leaf, body)?;
+    Ok(finish(alloc, body, signature.as_slice())?)
+}
+
 // A history: the texts of its links, the root first, and their names.
 #[derive(Drop)]
 struct History {
@@ -50,16 +70,16 @@ impl History {
     }
 }
 
-fn root(alloc: Global, number: u64) -> Result<Bytes, Fail> {
+fn root(alloc: Global, keys: &Keys, number: u64) -> Result<Bytes, Fail> {
     let mut text = Bytes::new(alloc);
     text.append(b"team-link 1\nteam -\nuser ann\nkey ")?;
-    text.append(KEY.as_bytes())?;
+    write_base64(&mut text, keys.own.public().as_slice())?;
     text.append(b"\ntime ")?;
     write_decimal(&mut text, number)?;
     text.append(b"\nact found ")?;
     text.append(SEAL.as_bytes())?;
-    text.append(b" Reef crew\nsign AAEC\n")?;
-    Ok(text)
+    text.append(b" Reef crew\n")?;
+    sign(alloc, &keys.own, 0, text.as_slice())
 }
 
 // One to three of the links before, ascending by name.
@@ -77,7 +97,13 @@ fn parents(alloc: Global, draws: &mut Draws, names: &[LinkName]) -> Result<Vec<L
 }
 
 // A title or a join by ann, or a title by somebody who isn't on the team.
-fn child(alloc: Global, team: &LinkName, parents: &[LinkName], n: u64) -> Result<Bytes, Fail> {
+fn child(
+    alloc: Global,
+    keys: &Keys,
+    team: &LinkName,
+    parents: &[LinkName],
+    n: u64,
+) -> Result<Bytes, Fail> {
     let mut text = Bytes::new(alloc);
     text.append(b"team-link 1\nteam ")?;
     write_hex(&mut text, team.as_slice())?;
@@ -91,11 +117,8 @@ fn child(alloc: Global, team: &LinkName, parents: &[LinkName], n: u64) -> Result
     } else {
         b"\nuser ann\nkey "
     })?;
-    text.append(if stranger {
-        OTHER_KEY.as_bytes()
-    } else {
-        KEY.as_bytes()
-    })?;
+    let tree = if stranger { &keys.other } else { &keys.own };
+    write_base64(&mut text, tree.public().as_slice())?;
     text.append(b"\ntime ")?;
     write_decimal(&mut text, n)?;
     if parents.len() > 1 && !stranger {
@@ -104,22 +127,22 @@ fn child(alloc: Global, team: &LinkName, parents: &[LinkName], n: u64) -> Result
         text.append(b"\nact title Title ")?;
         write_decimal(&mut text, n)?;
     }
-    text.append(b"\nsign AAEC\n")?;
-    Ok(text)
+    text.append(b"\n")?;
+    sign(alloc, tree, n, text.as_slice())
 }
 
-fn make_history(alloc: Global, number: u64, count: u64) -> Result<History, Fail> {
+fn make_history(alloc: Global, keys: &Keys, number: u64, count: u64) -> Result<History, Fail> {
     let mut draws = Draws { state: number };
     let mut history = History {
         texts: Vec::new(alloc),
         names: Vec::new(alloc),
     };
-    let first = root(alloc, number)?;
+    let first = root(alloc, keys, number)?;
     let team = name_of(first.as_slice());
     history.add(first)?;
     for n in 1..count {
         let parents = parents(alloc, &mut draws, history.names.as_slice())?;
-        let text = child(alloc, &team, parents.as_slice(), n)?;
+        let text = child(alloc, keys, &team, parents.as_slice(), n)?;
         history.add(text)?;
     }
     Ok(history)
@@ -171,12 +194,13 @@ fn shuffled(alloc: Global, draws: &mut Draws, order: &[usize]) -> Result<Vec<usi
 // Takes a history forwards, backwards and shuffled, and answers how many of its links wait.
 fn is_shown_once(
     rt: &(impl Abort + AllocGlobal),
+    keys: &Keys,
     number: u64,
     count: u64,
     left_out: usize,
 ) -> Result<u32, Fail> {
     let alloc = rt.alloc();
-    let history = make_history(alloc, number, count)?;
+    let history = make_history(alloc, keys, number, count)?;
     let order = all_but_one(alloc, history.texts.len(), left_out)?;
     let (forwards, waiting) = shown(alloc, &history, order.as_slice())?;
     let other = backwards(alloc, order.as_slice())?;
@@ -190,9 +214,10 @@ fn is_shown_once(
 // Histories of 2 to 60 links, each with one left out, on which others wait.
 #[test]
 fn thirty_histories_are_shown_the_same_in_any_order(rt: HostRuntime) -> Result<(), Fail> {
+    let keys = make_keys(rt.alloc())?;
     let mut waiting: u32 = 0;
     for number in 1..31u64 {
-        let waits = is_shown_once(&rt, number, number * 2, number as usize / 2 + 1)?;
+        let waits = is_shown_once(&rt, &keys, number, number * 2, number as usize / 2 + 1)?;
         waiting = waiting.saturating_add(waits);
     }
     assert!(rt; waiting > 30);

@@ -1,22 +1,28 @@
-//! The program: it reads the words of the command line, and prints the team of the links in a file.
+//! The program: it reads the words of the command line, and does the command that they are.
 //!
-//! `run` is the top call, over any files and any sink. `specs/Words.antt` says what words mean, `specs/Show.antt` what `show`
-//! does, and `specs/Running.antt` what `run` promises of both. `main` hands in the words and the real objects, and ends with its status.
+//! `run` is the top call, over any files, entropy, clock, source, sink and sealer. `specs/Words.antt` says what words mean,
+//! `specs/Show.antt` and `specs/Newkey.antt` what each command does, and `specs/Running.antt` what `run` promises. `main` hands in the
+//! words and the real objects, and ends with the status.
 #![tactic(auto)]
 
 mod command;
+mod faults;
 #[cfg(test)]
 mod histories;
+mod newkey;
+#[cfg(test)]
+mod reef;
 mod run;
 mod show;
 #[cfg(test)]
 mod tests;
 
+use lockboxes::SymbolicKeeper;
 use run::run;
 use std::io::ErrorKind;
 use std::process::ExitCode;
 use std::{env, io};
-use tg_outside::{Output, RealFiles, Silent, Steps};
+use tg_outside::{Input, Output, RealClock, RealEntropy, RealFiles, Silent, Steps};
 
 // The words after the program's name. Where one isn't UTF-8 there are none, which is no command.
 fn words_given(rt: &HostRuntime) -> Result<Vec<String>, ExitCode> {
@@ -41,7 +47,20 @@ fn main(rt: HostRuntime) -> ExitCode {
         Err(status) => return status,
     };
     let mut files = RealFiles::new(&rt);
+    let mut entropy = RealEntropy::new(&rt);
+    let mut clock = RealClock::new(&rt);
+    let mut input = Input::new(rt.reader());
     let mut out = Output::new(io::writer(&rt));
     let mut steps = Steps::new(Silent);
-    ExitCode::from(run(rt.alloc(), &words, &mut files, &mut out, &mut steps))
+    ExitCode::from(run(
+        rt.alloc(),
+        &words,
+        &mut files,
+        &mut entropy,
+        &mut clock,
+        &mut input,
+        &mut out,
+        &SymbolicKeeper,
+        &mut steps,
+    ))
 }

@@ -1,41 +1,83 @@
 ghost use Rattle.std.specs.Prelude.{◌≡◌, ◌≢◌, ◌<◌, ◌⊎◌, map, None, Err, IfOk, string_bytes, codes};
-ghost use Rattle.outcomes.specs.Seeing.{Seen, Counts};
 ghost use Rattle.outcomes.specs.Ending.{IsCaused};
 ghost use Rattle.team_cli.specs.Words.{command_of};
-ghost use Rattle.team_cli.specs.Running.{RunsWords};
+ghost use Rattle.team_cli.specs.Running.{RunsCommand, RunsWords};
 
-use crate::command::command_of;
+use crate::command::{Command, command_of};
+use crate::newkey::run_newkey;
 use crate::show::run_show;
+use lockboxes::Sealer;
 use outcomes::{Answer, conclude};
 use std::alloc::Global;
-use tg_outside::{Fault, Files, Sink, StepLedger, Steps};
+use tg_outside::{Clock, Entropy, Fault, Files, Sink, Source, StepLedger, Steps};
 use tg_text::Memory;
 
 /// All that the program does. The words are those after its name, and the result is its status: 0 to 4 by the words and
-/// the files, 5 where a call of the outside failed, 6 for want of memory.
-pub fn run<F: Files, O: Sink, L: StepLedger>(
+/// what is outside, 5 where a call of the outside failed, 6 for want of memory.
+pub fn run<F: Files, E: Entropy, C: Clock, I: Source, O: Sink, K: Sealer, L: StepLedger>(
     alloc: Global,
     words: &[String],
     files: &mut F,
+    entropy: &mut E,
+    clock: &mut C,
+    input: &mut I,
     out: &mut O,
+    sealer: &K,
     steps: &mut Steps<L>,
 ) -> u8
-    ensures runs { (seen : Seen) → RunsWords (command_of (map string_bytes words.now)) (record seen { files = F.files files.old; taken = O.taken out.old })
-        (record seen { files = F.files files.new; taken = O.taken out.new }) result }
-    ensures cause { (counts : Counts) → IsCaused (record counts { files = F.faults files.old; taken = O.faults out.old })
-        (record counts { files = F.faults files.new; taken = O.faults out.new }) result }
+    ensures runs { RunsWords K.public (command_of (map string_bytes words.now))
+        (record { files = F.files files.old; draws = E.left entropy.old; moment = C.moment clock.old; input = I.left input.old; taken = O.taken out.old })
+        (record { files = F.files files.new; draws = E.left entropy.new; moment = C.moment clock.new; input = I.left input.new; taken = O.taken out.new }) result }
+    ensures cause { IsCaused (record { files = F.faults files.old; draws = E.faults entropy.old; input = I.faults input.old; taken = O.faults out.old })
+        (record { files = F.faults files.new; draws = E.faults entropy.new; input = I.faults input.new; taken = O.faults out.new }) result }
 
     // Whether or not contents are told, 2 comes exactly where the words are no command.
     ensures usage { command_of (map string_bytes words.now) ≡ None → result < 5 → result ≡ 2 }
     ensures only_usage { result ≡ 2 → command_of (map string_bytes words.now) ≡ None }
 
     // A command is done, or a file isn't what it needs.
-    ensures shown { command_of (map string_bytes words.now) ≢ None → result < 5 → (result ≡ 0) ⊎ (result ≡ 3) }
+    ensures told { command_of (map string_bytes words.now) ≢ None → result < 5 → (result ≡ 0) ⊎ (result ≡ 3) }
 {
     match command_of(alloc, words) {
-        Ok(Some(command)) => run_show(alloc, &command, files, out, steps),
+        Ok(Some(command)) => {
+            run_command(
+                alloc, &command, files, entropy, clock, input, out, sealer, steps,
+            )
+        }
         Ok(None) => conclude(out, usage(alloc)),
         Err(Memory) => 6,
+    }
+}
+
+fn run_command<F: Files, E: Entropy, C: Clock, I: Source, O: Sink, K: Sealer, L: StepLedger>(
+    alloc: Global,
+    command: &Command,
+    files: &mut F,
+    entropy: &mut E,
+    clock: &mut C,
+    input: &mut I,
+    out: &mut O,
+    sealer: &K,
+    steps: &mut Steps<L>,
+) -> u8
+    ensures runs { RunsCommand K.public command.now
+        (record { files = F.files files.old; draws = E.left entropy.old; moment = C.moment clock.old; input = I.left input.old; taken = O.taken out.old })
+        (record { files = F.files files.new; draws = E.left entropy.new; moment = C.moment clock.new; input = I.left input.new; taken = O.taken out.new }) result }
+    ensures cause { IsCaused (record { files = F.faults files.old; draws = E.faults entropy.old; input = I.faults input.old; taken = O.faults out.old })
+        (record { files = F.faults files.new; draws = E.faults entropy.new; input = I.faults input.new; taken = O.faults out.new }) result }
+    ensures status { result < 5 → (result ≡ 0) ⊎ (result ≡ 3) }
+{
+    match command {
+        Command::Show { .. } => {
+            run_show(
+                alloc, command, files, entropy, clock, input, out, sealer, steps,
+            )
+        }
+        Command::Newkey { .. } => {
+            run_newkey(
+                alloc, command, files, entropy, clock, input, out, sealer, steps,
+            )
+        }
     }
 }
 

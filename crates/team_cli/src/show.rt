@@ -1,4 +1,4 @@
-ghost use Rattle.std.specs.Prelude.{◌≡◌, ◌≢◌, ◌<◌, ◌≤◌, ◌⊎◌, List, length, ℕ, Option, Err, IfOk, IfSome, codes};
+ghost use Rattle.std.specs.Prelude.{◌≡◌, ◌<◌, ◌≤◌, ◌⊎◌, List, length, ℕ, Option, IfOk, IfSome};
 ghost use Rattle.std.specs.FinMap as fin;
 ghost use Rattle.std.specs.List.{AllByRecursion};
 ghost use Rattle.team_sets.specs.OrderLaws.{IsSet};
@@ -6,20 +6,22 @@ ghost use Rattle.team_model.specs.Judging.{name_of};
 ghost use Rattle.team_model.specs.ShowText.{show_text};
 ghost use Rattle.link_text.specs.LinkText.{IsValid, text};
 ghost use Rattle.tg_outside.specs.Causes.{HasCauseOrMemory};
-ghost use Rattle.outcomes.specs.Seeing.{Seen, Counts};
+ghost use Rattle.outcomes.specs.Seeing.{Seen};
 ghost use Rattle.outcomes.specs.Ending.{Prepares, IsCaused};
 ghost use Rattle.team_cli.specs.declared.command.Command.TheVariants.{Show};
-ghost use Rattle.team_cli.specs.Show.{Shows, ShowsFile, fault_line, show_outcome};
+ghost use Rattle.team_cli.specs.Show.{Shows, ShowsFile, show_outcome};
 ghost use Rattle.team_cli.specs.Running.{RunsCommand};
 
 use crate::command::Command;
+use crate::faults::file_fault;
+use lockboxes::Sealer;
 use outcomes::{Answer, conclude};
 use replica::Replica;
 use std::alloc::Global;
 use team_files::{FileFault, FileView, file_is_read_once, read_file};
 use team_model::{Link, text_is_of_set};
 use team_report::{show_is_of_view, show_text};
-use tg_outside::{Fault, Files, Sink, StepLedger, Steps};
+use tg_outside::{Clock, Entropy, Fault, Files, Sink, Source, StepLedger, Steps};
 use tg_text::{Bytes, Items, LinkName, Memory, Word};
 
 // The text of `show` of the team file that the bytes are, `None` where they are none. There is one such text.
@@ -54,15 +56,6 @@ fn show_links(alloc: Global, team: LinkName, links: Items<Link>) -> Result<Bytes
     show_text(alloc, &team, replica.view())
 }
 
-// An answer that is a fault of a file.
-fn file_fault(alloc: Global, name: &str, word: &str) -> Result<Answer, Fault>
-    ensures told { IfOk result (λ answer. (answer.status ≡ 3) × (answer.text ≡ fault_line name.now word.now)) }
-    ensures memory { result ≢ Err Fault.Failed }
-{
-    let line = format!(in alloc; "fault {name} {word}\n")?;
-    Ok(Answer::say(alloc, 3, line.as_bytes())?)
-}
-
 // All of `show` but the printing.
 fn answer_show<F: Files>(alloc: Global, files: &mut F, file: &str) -> Result<Answer, Fault>
     ensures prepares { (seen : Seen) (shown : Option (List ℕ)) → IfSome (F.files files.old) (λ m. ShowsFile (fin.get m file.now) shown)
@@ -82,25 +75,33 @@ fn answer_show<F: Files>(alloc: Global, files: &mut F, file: &str) -> Result<Ans
 }
 
 fn file_shown(command: &Command) -> &Word
+    requires { (file : List ℕ) × (command.now ≡ Show file) }
     ensures { command.now ≡ Show result.now }
 {
     match command {
         Command::Show { file } => file,
+        Command::Newkey { .. } => unreachable!(),
     }
 }
 
 /// Prints the team of the links in a file.
-pub fn run_show<F: Files, O: Sink, L: StepLedger>(
+pub fn run_show<F: Files, E: Entropy, C: Clock, I: Source, O: Sink, K: Sealer, L: StepLedger>(
     alloc: Global,
     command: &Command,
     files: &mut F,
+    entropy: &mut E,
+    clock: &mut C,
+    input: &mut I,
     out: &mut O,
-    _steps: &mut Steps<L>,
+    sealer: &K,
+    steps: &mut Steps<L>,
 ) -> u8
-    ensures runs { (seen : Seen) → RunsCommand command.now (record seen { files = F.files files.old; taken = O.taken out.old })
-        (record seen { files = F.files files.new; taken = O.taken out.new }) result }
-    ensures cause { (counts : Counts) → IsCaused (record counts { files = F.faults files.old; taken = O.faults out.old })
-        (record counts { files = F.faults files.new; taken = O.faults out.new }) result }
+    requires { (file : List ℕ) × (command.now ≡ Show file) }
+    ensures runs { RunsCommand K.public command.now
+        (record { files = F.files files.old; draws = E.left entropy.old; moment = C.moment clock.old; input = I.left input.old; taken = O.taken out.old })
+        (record { files = F.files files.new; draws = E.left entropy.new; moment = C.moment clock.new; input = I.left input.new; taken = O.taken out.new }) result }
+    ensures cause { IsCaused (record { files = F.faults files.old; draws = E.faults entropy.old; input = I.faults input.old; taken = O.faults out.old })
+        (record { files = F.faults files.new; draws = E.faults entropy.new; input = I.faults input.new; taken = O.faults out.new }) result }
     ensures status { result < 5 → (result ≡ 0) ⊎ (result ≡ 3) }
 {
     let file = file_shown(command);
