@@ -1,0 +1,7 @@
+pub mod Ascending
+pub mod Found
+pub mod Lawful
+pub mod Listed
+pub mod Placed
+pub mod Scopes
+pub mod Written

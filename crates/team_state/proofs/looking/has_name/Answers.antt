@@ -1,0 +1,6 @@
+use Rattle.std.proofs.Common.{◌∙◌}
+use Rattle.team_state.proofs.Found.{any_names}
+use Rattle.team_state.proofs.looking.has_name.Goals as goal
+
+pub returns : goal.returns
+returns c = c.contains.ensures.value ∙ any_names c.args.roles.now c.args.role.now

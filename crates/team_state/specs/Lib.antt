@@ -1,0 +1,3 @@
+pub mod ArrowLaws
+pub mod Kept
+pub mod Rows

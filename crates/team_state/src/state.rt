@@ -1,0 +1,293 @@
+ghost use Rattle.std.specs.Prelude.{◌≡◌, [], false, IfOk, option_copied, OnErr, OnOk};
+ghost use Rattle.key_reach.specs.Keys.{is_device};
+ghost use Rattle.team_model.specs.KeyTables.{key_table};
+ghost use Rattle.team_sets.specs.Names.{has_name};
+ghost use Rattle.team_model.specs.State.{empty_state, has_role, is_admin, is_empty_state, lists_device, lists_user};
+ghost use Rattle.team_model.specs.Writes as after;
+
+use crate::looking::{
+    has_member, has_role, has_scope, leads_to_role, lists_device, member_has_role,
+};
+use crate::rows::Piece;
+use crate::table::{Table, append, drop_both, make_table, put, put_both};
+use crate::writing::{drop_user, put_device_rows, scopes_without};
+use key_reach::KeyTable;
+use std::alloc::Global;
+use std::marker::Model;
+use std::rc::Rc;
+use team_model::{Device, Invitation, Member};
+use tg_text::{BoxLine, DeviceId, KeyId, Memory, RoleName, Scope, Title, UserName};
+
+/// The state of a team. Its tables ascend: members and roles by name, devices and invitations by id, current keys by scope.
+/// Copies share their tables, and a table is copied when it is written while it is shared.
+#[derive(Debug, Drop)]
+pub struct TeamState {
+    alloc: Global,
+    title: Option<Title>,
+    members: Rc<Table<Member>>,
+    roles: Rc<Table<RoleName>>,
+    devices: Rc<Table<Device>>,
+    invitations: Rc<Table<Invitation>>,
+    // The keys of devices stand behind the others.
+    keys: Rc<Table<KeyId>>,
+    boxes: Rc<Table<BoxLine>>,
+    scopes: Rc<Table<Scope>>,
+}
+
+impl Model for TeamState {
+    ghost use Rattle.team_model.specs.State.{State};
+
+    ghost Value = { State };
+
+    ghost use Rattle.team_state.specs.Kept.{IsKept, state_of};
+
+    ghost view = { λ it. state_of it.title it.members.value.rows.items it.roles.value.rows.items it.devices.value.rows.items it.invitations.value.rows.items it.keys.value.rows.items it.boxes.value.rows.items };
+
+    ghost invariant = { λ it. IsKept (state_of it.title it.members.value.rows.items it.roles.value.rows.items it.devices.value.rows.items it.invitations.value.rows.items it.keys.value.rows.items it.boxes.value.rows.items) it.keys.value.rows.items it.scopes.value.rows.items };
+}
+
+impl TeamState {
+    /// The state before the team is founded.
+    pub fn new(alloc: Global) -> Result<TeamState, Memory>
+        ensures { IfOk result (λ it. it ≡ empty_state) }
+    {
+        Ok(TeamState {
+            alloc,
+            title: None,
+            members: make_table(alloc, Vec::new(alloc))?,
+            roles: make_table(alloc, Vec::new(alloc))?,
+            devices: make_table(alloc, Vec::new(alloc))?,
+            invitations: make_table(alloc, Vec::new(alloc))?,
+            keys: make_table(alloc, Vec::new(alloc))?,
+            boxes: make_table(alloc, Vec::new(alloc))?,
+            scopes: make_table(alloc, Vec::new(alloc))?,
+        })
+    }
+
+    /// An equal state, which shares the tables.
+    pub fn copy(&self) -> Result<TeamState, Memory>
+        ensures { IfOk result (λ it. it ≡ self.now) }
+    {
+        Ok(TeamState {
+            alloc: self.alloc,
+            title: self.title,
+            members: self.members.clone()?,
+            roles: self.roles.clone()?,
+            devices: self.devices.clone()?,
+            invitations: self.invitations.clone()?,
+            keys: self.keys.clone()?,
+            boxes: self.boxes.clone()?,
+            scopes: self.scopes.clone()?,
+        })
+    }
+
+    /// Whether the team isn't founded.
+    pub fn is_empty(&self) -> bool
+        ensures { result ≡ is_empty_state self.now }
+    {
+        self.title.is_none()
+    }
+
+    /// The title, which each founded team has.
+    pub fn title(&self) -> Option<&Title>
+        ensures { option_copied result ≡ self.now.title }
+    {
+        self.title.as_ref()
+    }
+
+    /// The listed users, in ascending order of their names.
+    pub fn members(&self) -> &[Member]
+        ensures { result.now ≡ self.now.members }
+    {
+        self.members.rows.as_slice()
+    }
+
+    /// The roles that there are, in ascending order.
+    pub fn roles(&self) -> &[RoleName]
+        ensures { result.now ≡ self.now.roles }
+    {
+        self.roles.rows.as_slice()
+    }
+
+    /// All devices that were ever listed, in ascending order of their ids.
+    pub fn devices(&self) -> &[Device]
+        ensures { result.now ≡ self.now.devices }
+    {
+        self.devices.rows.as_slice()
+    }
+
+    /// All invitations that were ever made, in ascending order of their ids.
+    pub fn invitations(&self) -> &[Invitation]
+        ensures { result.now ≡ self.now.invitations }
+    {
+        self.invitations.rows.as_slice()
+    }
+
+    /// Whether a user is listed with the role of an admin.
+    pub fn is_admin(&self, user: &UserName) -> bool
+        ensures { result ≡ is_admin self.now user.now }
+    {
+        self.has_role(user, &RoleName::admin())
+    }
+
+    /// Whether a user is listed with a role.
+    pub fn has_role(&self, user: &UserName, role: &RoleName) -> bool
+        ensures { result ≡ has_role self.now user.now role.now }
+    {
+        member_has_role(self.members.rows.as_slice(), user, role)
+    }
+
+    /// Whether a user is listed.
+    pub fn lists_user(&self, user: &UserName) -> bool
+        ensures { result ≡ lists_user self.now user.now }
+    {
+        has_member(self.members.rows.as_slice(), user)
+    }
+
+    /// Whether a role is listed.
+    pub fn lists_role(&self, role: &RoleName) -> bool
+        ensures { result ≡ has_name self.now.roles role.now }
+    {
+        has_role(self.roles.rows.as_slice(), role)
+    }
+
+    /// Whether a device is listed for a user.
+    pub fn lists(&self, user: &UserName, device: &DeviceId) -> bool
+        ensures { result ≡ lists_device self.now user.now device.now }
+    {
+        lists_device(self.devices.rows.as_slice(), user, device)
+    }
+
+    /// Gives the team a title.
+    pub fn put_title(&mut self, title: Title) -> Result<(), Memory>
+        ensures ok { OnOk result (self.new ≡ after.with_title self.old title) }
+        ensures err { OnErr result (self.new ≡ self.old) }
+    {
+        put(&mut self.scopes, Scope::Team)?;
+        self.title = Some(title);
+        Ok(())
+    }
+
+    /// Lists a user, with these roles.
+    pub fn put_member(&mut self, member: Member) -> Result<(), Memory>
+        ensures ok { OnOk result (self.new ≡ after.with_member self.old member) }
+        ensures err { OnErr result (self.new ≡ self.old) }
+    {
+        let scope = Scope::User(member.user);
+        put_both(&mut self.members, &mut self.scopes, member, scope)?;
+        Ok(())
+    }
+
+    /// Drops a user, whose devices become unlisted.
+    pub fn drop_member(&mut self, user: &UserName) -> Result<(), Memory>
+        ensures ok { OnOk result (self.new ≡ after.without_member self.old user.now) }
+        ensures err { OnErr result (self.new ≡ self.old) }
+    {
+        let scopes = scopes_without(
+            self.alloc,
+            self.scopes.rows.as_slice(),
+            self.devices.rows.as_slice(),
+            user,
+        )?;
+        let scopes = make_table(self.alloc, scopes)?;
+        drop_user(&mut self.members, &mut self.devices, user)?;
+        self.scopes = scopes;
+        Ok(())
+    }
+
+    /// Lists a role.
+    pub fn put_role(&mut self, role: RoleName) -> Result<(), Memory>
+        ensures ok { OnOk result (self.new ≡ after.with_role self.old role) }
+        ensures err { OnErr result (self.new ≡ self.old) }
+    {
+        put_both(&mut self.roles, &mut self.scopes, role, Scope::Role(role))?;
+        Ok(())
+    }
+
+    /// Drops a role. Members who have it keep it among their roles.
+    pub fn drop_role(&mut self, role: &RoleName) -> Result<(), Memory>
+        ensures ok { OnOk result (self.new ≡ after.without_role self.old role.now) }
+        ensures err { OnErr result (self.new ≡ self.old) }
+    {
+        drop_both(&mut self.roles, &mut self.scopes, role, &Scope::Role(*role))?;
+        Ok(())
+    }
+
+    /// Writes the row of a device. Its key is the current one of the device.
+    pub fn put_device(&mut self, device: Device) -> Result<(), Memory>
+        ensures ok { OnOk result (self.new ≡ after.with_device self.old device) }
+        ensures err { OnErr result (self.new ≡ self.old) }
+    {
+        put_device_rows(&mut self.devices, &mut self.keys, &mut self.scopes, device)?;
+        Ok(())
+    }
+
+    /// Writes the row of an invitation.
+    pub fn put_invitation(&mut self, invitation: Invitation) -> Result<(), Memory>
+        ensures ok { OnOk result (self.new ≡ after.with_invitation self.old invitation) }
+        ensures err { OnErr result (self.new ≡ self.old) }
+    {
+        put(&mut self.invitations, invitation)?;
+        Ok(())
+    }
+
+    /// Makes a key the current one of its scope, which isn't that of a device: the key of a device stands in its row.
+    pub fn put_key(&mut self, key: KeyId) -> Result<(), Memory>
+        requires { is_device key.scope ≡ false }
+        ensures ok { OnOk result (self.new ≡ after.with_key self.old key) }
+        ensures err { OnErr result (self.new ≡ self.old) }
+    {
+        put(&mut self.keys, key)?;
+        Ok(())
+    }
+
+    /// Adds a box behind those that are held.
+    pub fn put_box(&mut self, line: &BoxLine) -> Result<(), Memory>
+        ensures ok { OnOk result (self.new ≡ after.with_box self.old line.now) }
+        ensures err { OnErr result (self.new ≡ self.old) }
+    {
+        append(&mut self.boxes, line.copy(self.alloc)?)?;
+        Ok(())
+    }
+}
+
+impl KeyTable for TeamState {
+    ghost use Rattle.team_state.specs.ArrowLaws.{allowed_arrows};
+
+    ghost table = { key_table };
+
+    ghost lawful = { allowed_arrows };
+
+    fn boxes(&self) -> &[BoxLine] {
+        self.boxes.rows.as_slice()
+    }
+
+    fn currents(&self) -> &[KeyId] {
+        self.keys.rows.as_slice()
+    }
+
+    fn scopes(&self) -> &[Scope] {
+        self.scopes.rows.as_slice()
+    }
+
+    fn live(&self, scope: &Scope) -> bool {
+        has_scope(self.scopes.rows.as_slice(), scope)
+    }
+
+    fn allowed(&self, to: &Scope, of: &Scope) -> bool {
+        match (to, of) {
+            (Scope::Device(device), Scope::User(user)) => {
+                self.lists(user, device) && self.lists_user(user)
+            }
+            (Scope::User(user), Scope::Role(role)) => {
+                self.has_role(user, role) && self.lists_role(role)
+            }
+            (Scope::User(user), Scope::Team) => self.lists_user(user) && !self.is_empty(),
+            (Scope::Role(role), Scope::Team) => self.lists_role(role) && !self.is_empty(),
+            (Scope::Role(role), Scope::Role(other)) => {
+                leads_to_role(role, other) && self.lists_role(role) && self.lists_role(other)
+            }
+            _ => false,
+        }
+    }
+}
