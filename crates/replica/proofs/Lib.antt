@@ -1,9 +1,7 @@
-pub mod Faults
+pub mod Counts
 pub mod HasName
 pub mod Lawful
 pub mod NextRow
 pub mod Picks
-pub mod Places
 pub mod Rows
-pub mod Sets
-pub mod Waits
+pub mod Taken

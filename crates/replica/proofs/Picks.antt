@@ -1,5 +1,5 @@
 -- Links picked by their places.
-use Rattle.std.proofs.Common.{◌≡◌, ℕ, zero, suc, ◌+◌, ◌<◌, Bool, true, false, cond, List, [], ◌∷◌, ◌++◌, Option, Some, None, refl, sym, ◌∙◌, ap, length, take, drop, filter, get_or, slice_get, All, add-one, drop-cons, arith}
+use Rattle.std.proofs.Common.{◌≡◌, ℕ, zero, suc, ◌+◌, ◌<◌, Bool, true, false, cond, List, [], ◌∷◌, ◌++◌, Option, Some, None, refl, sym, ◌∙◌, ap, length, take, drop, filter, get_or, slice_get, All, add-one, arith}
 use Rattle.std.specs.List.{cons_option}
 use Rattle.team_model.specs.declared.terms.Link.{Link}
 use Rattle.replica.specs.Places.{picked}
@@ -37,9 +37,6 @@ module _ (links : List Link) where
   length-picked (p ∷ ps) range =
       let x = some_at links p (range 0 0 (omega arith)) in
       rw x.1 (ap suc (length-picked ps (within_rest p ps range)))
-
-  pub picked_here : (places : List ℕ) (k : ℕ) (x : Link) → k < length places → slice_get links (get_or places k 0) ≡ Some x → picked links (drop k places) ≡ x ∷ picked links (drop (k + 1) places)
-  picked_here places k x h e = rw (add-one, drop-cons places k 0, e) refl
 
   pub picked_more : (places : List ℕ) (p : ℕ) (x : Link) → slice_get links p ≡ Some x → picked links (places ++ p ∷ []) ≡ picked links places ++ x ∷ []
   picked_more [] p x e = rw e refl

@@ -1,55 +1,60 @@
-ghost use Rattle.std.specs.Prelude.{◌≡◌, ◌<◌, ◌++◌, [], ◌∷◌, ◌↔◌, ◌≤◌, length, false, IsTrue, IfOk, OnOk, OnErr, Err};
-ghost use Rattle.std.specs.List.{AllByRecursion};
-ghost use Rattle.team_sets.specs.Names.{has_name};
-ghost use Rattle.team_sets.specs.Order.{names};
-ghost use Rattle.team_sets.specs.OrderLaws.{IsSet};
-ghost use Rattle.team_model.specs.Judging.{name_of, order_of};
-ghost use Rattle.link_text.specs.LinkText.{IsValid, text};
-ghost use Rattle.sha2.specs.Sha256.{sha256};
+ghost use Rattle.std.specs.Prelude.{◌≡◌, ◌<◌, [], ◌↔◌, ℕ, List, length, IsTrue, IfOk, OnOk, OnErr, Ok, Err};
 ghost use Rattle.link_text.specs.Faults.{IsBadText};
-ghost use Rattle.replica.specs.Taking.{IsExact, IsOfOther, IsUnverified, Takes};
-ghost use Rattle.replica.specs.Held.{answer_of, sight_of, took_of};
+ghost use Rattle.link_graph.specs.Faults.{IsExact};
+ghost use Rattle.link_graph.specs.Held.{arrived_of};
+ghost use Rattle.link_graph.specs.Taking.{Clashes, HasText, IsFull, IsOfOther, IsTaken, IsUnverified};
+ghost use Rattle.link_graph.specs.Webs.{without_last};
+ghost use Rattle.replica.specs.Held.{sight_of};
 
-use crate::looking::{answer, count_connected, look};
-use crate::take_fault::TakeFault;
-use crate::taking::read_of_team;
-use crate::took::Took;
+use crate::looking::look;
 use crate::view::View;
+use link_graph::{Graph, TakeFault, Took};
 use std::alloc::Global;
 use std::marker::Model;
-use team_model::Link;
 use tg_outside::{StepLedger, Steps};
-use tg_text::{Items, LinkName, Memory};
+use tg_text::{LinkName, Memory};
 
 /// One holder of the links of a team. What is shown of them is found anew whenever a link comes.
 #[derive(Drop)]
 pub struct Replica {
-    team: LinkName,
-    links: Vec<Link>,
+    graph: Graph,
     view: View,
 }
 
 impl Model for Replica {
-    ghost use Rattle.replica.specs.Held.{Held, IsKept};
+    ghost use Rattle.std.specs.Prelude.{◌≡◌};
+    ghost use Rattle.link_graph.specs.Held.{Held};
+    ghost use Rattle.replica.specs.Held.{sight_of};
 
     ghost Value = { Held };
 
-    ghost view = { λ it. record { team = it.team; links = it.links.items } };
+    ghost view = { λ it. it.graph };
 
-    ghost invariant = { λ it. IsKept it.team it.links.items it.view };
+    ghost invariant = { λ it. it.view ≡ sight_of it.graph.links };
 }
 
-/// What is shown of the links, and what is answered where so many were connected before.
-fn look_again(alloc: Global, links: &[Link], before: u32) -> Result<(View, Took), Memory>
-    requires set { IsSet name_of links.now }
-    requires few { length links.now ≤ 16384 }
-    ensures view { IfOk result (λ r. r.0 ≡ sight_of links.now) }
-    ensures answer { IfOk result (λ r. r.1 ≡ took_of before (length (order_of links.now))) }
+/// Finds what is shown with the link that was taken last. Without memory for it the link is let go.
+fn look_again(alloc: Global, graph: &mut Graph, before: u32) -> Result<View, Memory>
+    requires held { 0 < length graph.old.links }
+    requires before { before ≡ length (arrived_of (without_last graph.old.links)) }
+    ensures view { IfOk result (λ view. view ≡ sight_of graph.new.links) }
+    ensures ok { OnOk result (graph.new ≡ graph.old) }
+    ensures err { OnErr result (graph.new ≡ record graph.old { links = without_last graph.old.links }) }
 {
-    let view = look(alloc, links)?;
-    let now = count_connected(&view);
-    let took = answer(alloc, before, now)?;
-    Ok((view, took))
+    match look(alloc, graph) {
+        Ok(view) => Ok(view),
+        Err(memory) => {
+            graph.undo(before);
+            Err(memory)
+        }
+    }
+}
+
+/// Whether the answer says that the text was held before.
+fn was_held(took: &Took) -> bool
+    ensures { IsTrue result ↔ (took.now ≡ Took.Again) }
+{
+    matches!(took, Took::Again)
 }
 
 impl Replica {
@@ -57,26 +62,29 @@ impl Replica {
     pub fn new(alloc: Global, team: LinkName) -> Result<Replica, Memory>
         ensures { IfOk result (λ it. it ≡ record { team = team; links = [] }) }
     {
-        Replica::with_links(alloc, team, Items::new(alloc))
+        Replica::with_graph(alloc, Graph::new(alloc, team))
     }
 
-    /// A replica that holds these links from the start, as those of a team file. What is shown of them is found once.
-    pub fn with_links(alloc: Global, team: LinkName, links: Items<Link>) -> Result<Replica, Memory>
-        requires valid { AllByRecursion (λ l. IsValid team (text l) l) links }
-        requires set { IsSet name_of links }
-        requires few { length links ≤ 16384 }
-        ensures { IfOk result (λ it. it ≡ record { team = team; links = links }) }
+    /// A replica that holds the links of a graph, as those of a team file. What is shown of them is found once.
+    pub fn with_graph(alloc: Global, graph: Graph) -> Result<Replica, Memory>
+        ensures { IfOk result (λ it. it ≡ graph) }
     {
-        let links = links.into_vec();
-        let view = look(alloc, links.as_slice())?;
-        Ok(Replica { team, links, view })
+        let view = look(alloc, &graph)?;
+        Ok(Replica { graph, view })
     }
 
     /// The name of the team's root.
     pub fn team(&self) -> LinkName
         ensures { result ≡ self.now.team }
     {
-        self.team
+        self.graph.team()
+    }
+
+    /// The held links.
+    pub fn graph(&self) -> &Graph
+        ensures { result.now ≡ self.now }
+    {
+        &self.graph
     }
 
     /// What is shown of the held links.
@@ -86,71 +94,39 @@ impl Replica {
         &self.view
     }
 
-    /// Whether a link of this name is held.
-    pub fn holds(&self, name: &LinkName) -> bool
-        ensures { result ≡ has_name (names name_of self.now.links) name.now }
-    {
-        holds_name(self.links.as_slice(), name)
-    }
-
-    /// Takes a link that was read already. After want of memory all is as before, and the link is gone.
-    pub fn insert_link<L: StepLedger>(
-        &mut self,
-        alloc: Global,
-        link: Link,
-        steps: &mut Steps<L>,
-    ) -> Result<Took, Memory>
-        requires valid { IsValid self.old.team (text link) link }
-        requires fresh { has_name (names name_of self.old.links) link.name ≡ false }
-        requires room { length self.old.links < 16384 }
-        ensures taken { OnOk result (self.new ≡ record self.old { links = self.old.links ++ link ∷ [] }) }
-        ensures answer { IfOk result (λ took. took ≡ answer_of self.old.links (self.old.links ++ link ∷ [])) }
-        ensures memory { OnErr result (self.new ≡ self.old) }
-    {
-        let before = count_connected(&self.view);
-        self.links.push(link)?;
-        match look_again(alloc, self.links.as_slice(), before) {
-            Ok((view, took)) => {
-                self.view = view;
-                Ok(took)
-            }
-            Err(memory) => {
-                let _ = self.links.pop();
-                Err(memory)
-            }
-        }
-    }
-
-    /// Takes the text of a link. After a fault all is as before.
+    /// Takes the text of a link. Answers and faults are those of `Graph::take`. After a fault, want of memory included, the held
+    /// links and what is shown of them are as before.
     pub fn insert<L: StepLedger>(
         &mut self,
         alloc: Global,
         bytes: &[u8],
         steps: &mut Steps<L>,
     ) -> Result<Took, TakeFault>
-        requires fresh { has_name (names name_of self.old.links) (sha256 bytes.now) ≡ false }
-        requires room { length self.old.links < 16384 }
-        ensures taken { IfOk result (λ took. Takes self.old self.new bytes.now took) }
+        ensures taken { IfOk result (λ took. IsTaken self.old self.new bytes.now took) }
+        ensures again { HasText self.old.links bytes.now → result ≡ Ok Took.Again }
         ensures fault { OnErr result (self.new ≡ self.old) }
         ensures too_long { (result ≡ Err TakeFault.TooLong) ↔ (1048576 < length bytes.now) }
         ensures bad_text { IsExact TakeFault.BadText (IsBadText bytes.now) result }
         ensures other_team { IsExact TakeFault.OtherTeam (IsOfOther self.old.team bytes.now) result }
         ensures bad_signature { IsExact TakeFault.BadSignature (IsUnverified self.old.team bytes.now) result }
+        ensures name_clash { (n : List ℕ) → IsExact (TakeFault.NameClash n) (Clashes self.old bytes.now n) result }
+        ensures full { (held size : ℕ) → IsExact (TakeFault.Full held size) (IsFull self.old bytes.now held size) result }
     {
-        let link = read_of_team(alloc, bytes, &self.team)?;
-        let took = self.insert_link(alloc, link, steps)?;
-        Ok(took)
-    }
-}
-
-/// Whether one of these links has the name.
-pub(crate) fn holds_name(links: &[Link], name: &LinkName) -> bool
-    ensures { result ≡ has_name (names name_of links.now) name.now }
-{
-    for link in links {
-        if link.name == *name {
-            return true;
+        let before = self.graph.connected();
+        match self.graph.take(bytes) {
+            Ok(took) => {
+                if was_held(&took) {
+                    return Ok(took);
+                }
+                match look_again(alloc, &mut self.graph, before) {
+                    Ok(view) => {
+                        self.view = view;
+                        Ok(took)
+                    }
+                    Err(_) => Err(TakeFault::Memory),
+                }
+            }
+            Err(fault) => Err(fault),
         }
     }
-    false
 }

@@ -1,35 +1,41 @@
-use Rattle.std.proofs.Common.{◌≡◌, ap, subst, List, ℕ, Ok}
-use Rattle.team_sets.specs.Names.{Name}
-use Rattle.link_text.specs.LinkText.{IsValid, text}
-use Rattle.replica.specs.Held.{Held}
-use Rattle.replica.specs.Taking.{IsExact, IsOfOther, IsUnverified}
-use Rattle.replica.specs.declared.took.Took.{Took}
-use Rattle.replica.specs.declared.take_fault.TakeFault.TheVariants.{BadSignature, OtherTeam}
-use Rattle.replica.proofs.Faults.{exact_err, exact_ok}
+use Rattle.std.proofs.Common.{◌∙◌, sym, ap, subst, length, arith, List}
+use Rattle.std.proofs.lemmas.Grind.{common_steps}
+use Rattle.team_model.specs.declared.terms.Link.{Link}
+use Rattle.link_graph.specs.Held.{Held, arrived_of}
+use Rattle.link_graph.specs.Taking.{HasText, IsTaken}
+use Rattle.replica.specs.Held.{sight_of}
+use Rattle.replica.proofs.Taken.{let_go, not_again, not_held, others_held, some_held}
 use Rattle.replica.proofs.replica.Replica.insert.Goals as goal
 
-pub insert_link-requires-clause-valid : goal.insert_link-requires-clause-valid
-insert_link-requires-clause-valid g c =
-    let valid = c.in_ok-link.ensures.found in
-    subst (λ (t : Name). IsValid t (text c.in_ok-link.link) c.in_ok-link.link) (ap (λ (h : Held). h.team) c.self.view_is)
-    (subst (λ (b : List ℕ). IsValid c.self.inside.team b c.in_ok-link.link) valid.reads.is_text valid)
+pub returns-then-was_held-clause-taken : goal.returns-then-was_held-clause-taken
+returns-then-was_held-clause-taken g c = subst (λ (h : Held). IsTaken h c.take.new.self c.args.bytes.now c.in-Ok.took) c.self.view_is c.in-Ok.ensures.taken
 
-pub returns-in_err-link-clause-other_team : goal.returns-in_err-link-clause-other_team
-returns-in_err-link-clause-other_team g c =
-    subst (λ (t : Name). IsExact {T = Took} OtherTeam (IsOfOther t c.args.bytes.now) c.from_residual.result) (ap (λ (h : Held). h.team) c.self.view_is)
-    (exact_err OtherTeam (IsOfOther c.self.inside.team c.args.bytes.now) c.in_err-link.field-0.0 c.from_residual.result c.in_err-link.ensures.other_team c.from_residual.ensures.1)
+pub look_again-requires-clause-held : goal.look_again-requires-clause-held
+look_again-requires-clause-held g c =
+    some_held c.self.inside.graph c.take.new.self c.args.bytes.now c.in-Ok.took (not_again c.in-Ok.took c.was_held.result c.was_held.ensures c.if-was_held.false) c.in-Ok.ensures.taken
 
-pub returns-in_err-link-clause-bad_signature : goal.returns-in_err-link-clause-bad_signature
-returns-in_err-link-clause-bad_signature g c =
-    subst (λ (t : Name). IsExact {T = Took} BadSignature (IsUnverified t c.args.bytes.now) c.from_residual.result) (ap (λ (h : Held). h.team) c.self.view_is)
-    (exact_err BadSignature (IsUnverified c.self.inside.team c.args.bytes.now) c.in_err-link.field-0.0 c.from_residual.result c.in_err-link.ensures.bad_signature c.from_residual.ensures.1)
+pub look_again-requires-clause-before : goal.look_again-requires-clause-before
+look_again-requires-clause-before g c =
+    let others = others_held c.self.inside.graph c.take.new.self c.args.bytes.now c.in-Ok.took (not_again c.in-Ok.took c.was_held.result c.was_held.ensures c.if-was_held.false) c.in-Ok.ensures.taken in
+    c.connected-before.ensures ∙ ap (λ (l : List Link). length (arrived_of l)) (sym others)
 
-pub returns-clause-other_team : goal.returns-clause-other_team
-returns-clause-other_team g c =
-    subst (λ (t : Name). IsExact {T = Took} OtherTeam (IsOfOther t c.args.bytes.now) (Ok c.in_ok-took.took)) (ap (λ (h : Held). h.team) c.self.view_is)
-    (exact_ok OtherTeam (IsOfOther c.self.inside.team c.args.bytes.now) c.in_ok-link.link c.in_ok-took.took c.in_ok-link.ensures.other_team)
+pub invariant_of-self-in-Err-look_again-2 : goal.invariant_of-self-in-Err-look_again-2
+invariant_of-self-in-Err-look_again-2 g c =
+    let gone = let_go c.self.inside.graph c.take.new.self c.args.bytes.now c.in-Ok.took (not_again c.in-Ok.took c.was_held.result c.was_held.ensures c.if-was_held.false) c.in-Ok.ensures.taken in
+    c.self.invariant ∙ ap (λ (h : Held). sight_of h.links) (sym (c.in-Err-look_again.ensures.err ∙ gone))
 
-pub returns-clause-bad_signature : goal.returns-clause-bad_signature
-returns-clause-bad_signature g c =
-    subst (λ (t : Name). IsExact {T = Took} BadSignature (IsUnverified t c.args.bytes.now) (Ok c.in_ok-took.took)) (ap (λ (h : Held). h.team) c.self.view_is)
-    (exact_ok BadSignature (IsUnverified c.self.inside.team c.args.bytes.now) c.in_ok-link.link c.in_ok-took.took c.in_ok-link.ensures.bad_signature)
+pub returns-in-Ok-look_again-clause-again : goal.returns-in-Ok-look_again-clause-again
+returns-in-Ok-look_again-clause-again g c = λ has.
+    absurd (not_held c.self.inside.graph c.take.new.self c.args.bytes.now c.in-Ok.took (not_again c.in-Ok.took c.was_held.result c.was_held.ensures c.if-was_held.false) c.in-Ok.ensures.again
+    (subst (λ (h : Held). HasText h.links c.args.bytes.now) (sym c.self.view_is) has))
+
+pub returns-in-Err-look_again-clause-again : goal.returns-in-Err-look_again-clause-again
+returns-in-Err-look_again-clause-again g c = λ has.
+    absurd (not_held c.self.inside.graph c.take.new.self c.args.bytes.now c.in-Ok.took (not_again c.in-Ok.took c.was_held.result c.was_held.ensures c.if-was_held.false) c.in-Ok.ensures.again
+    (subst (λ (h : Held). HasText h.links c.args.bytes.now) (sym c.self.view_is) has))
+
+pub returns-in-Err-look_again-clause-fault : goal.returns-in-Err-look_again-clause-fault
+returns-in-Err-look_again-clause-fault g c =
+    let gone = let_go c.self.inside.graph c.take.new.self c.args.bytes.now c.in-Ok.took (not_again c.in-Ok.took c.was_held.result c.was_held.ensures c.if-was_held.false) c.in-Ok.ensures.taken in
+    let back = c.in-Err-look_again.ensures.err ∙ gone ∙ c.self.view_is in
+    grind (arith, common_steps)

@@ -1,7 +1,0 @@
-ghost use Rattle.replica.specs.HeldLaws.{WaitsForParents, WaitsWhereUnconnected};
-
-/// A link that is taken waits exactly where it isn't connected, which is where one of its parents isn't.
-pub fn waits_where_unconnected()
-    ensures unconnected { WaitsWhereUnconnected }
-    ensures parents { WaitsForParents }
-{}
