@@ -5,6 +5,8 @@
 //! tables say of keys is shown through `KeyTable`.
 #![tactic(auto)]
 
+#[cfg(test)]
+mod key_tests;
 mod kinds;
 mod looking;
 mod rows;
