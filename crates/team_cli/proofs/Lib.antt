@@ -1,4 +1,16 @@
 pub mod Answered
 pub mod FileShown
+pub mod Findings
+pub mod Foundings
+pub mod Givings
 pub mod KnownKeys
+pub mod MadeBytes
+pub mod MadeTeams
+pub mod MadeTexts
+pub mod MergedFiles
 pub mod Newkeys
+pub mod RefusedLines
+pub mod TextFates
+pub mod Titles
+pub mod Unions
+pub mod WordCounts

@@ -1,3 +1,10 @@
+pub mod Giving
+pub mod KnownKeys
+pub mod Make
+pub mod MakeLaws
+pub mod Merge
+pub mod MergeLaws
+pub mod MergeText
 pub mod Newkey
 pub mod Running
 pub mod Show

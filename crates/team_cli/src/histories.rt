@@ -13,8 +13,8 @@ const SEAL: &str = "deb0e38ced1e41de6f92e70e80c418d2d356afaaa99e26f5939dbc7d3ef4
 
 // Numbers that look random, the same at each run.
 #[derive(Drop)]
-struct Draws {
-    state: u64,
+pub(crate) struct Draws {
+    pub(crate) state: u64,
 }
 
 impl Draws {
@@ -33,12 +33,12 @@ impl Draws {
 
 // The keys of ann, and of somebody who isn't on the team.
 #[derive(Drop)]
-struct Keys {
+pub(crate) struct Keys {
     own: Tree,
     other: Tree,
 }
 
-fn make_keys(alloc: Global) -> Result<Keys, Fail> {
+pub(crate) fn make_keys(alloc: Global) -> Result<Keys, Fail> {
     Ok(Keys {
         own: Tree::make(alloc, 5, 3, &[0x11; 16], &[0x22; 32])?,
         other: Tree::make(alloc, 5, 3, &[0x44; 16], &[0x55; 32])?,
@@ -57,9 +57,9 @@ fn sign(alloc: Global, tree: &Tree, n: u64, body: &[u8]) -> Result<Bytes, Fail> 
 
 // A history: the texts of its links, the root first, and their names.
 #[derive(Drop)]
-struct History {
-    texts: Vec<Bytes>,
-    names: Vec<LinkName>,
+pub(crate) struct History {
+    pub(crate) texts: Vec<Bytes>,
+    pub(crate) names: Vec<LinkName>,
 }
 
 impl History {
@@ -131,7 +131,12 @@ fn child(
     sign(alloc, tree, n, text.as_slice())
 }
 
-fn make_history(alloc: Global, keys: &Keys, number: u64, count: u64) -> Result<History, Fail> {
+pub(crate) fn make_history(
+    alloc: Global,
+    keys: &Keys,
+    number: u64,
+    count: u64,
+) -> Result<History, Fail> {
     let mut draws = Draws { state: number };
     let mut history = History {
         texts: Vec::new(alloc),
@@ -154,9 +159,6 @@ fn shown(alloc: Global, history: &History, order: &[usize]) -> Result<(Bytes, u3
     let mut replica = Replica::new(alloc, *team)?;
     for &place in order {
         let text = history.texts.get(place).ok_or("no such link")?;
-        if replica.view().held >= 16384 || replica.holds(&name_of(text.as_slice())) {
-            return Err(Fail::from("full, or held already"));
-        }
         replica
             .insert(alloc, text.as_slice(), &mut Steps::new(Silent))
             .ok()
@@ -182,7 +184,11 @@ fn backwards(alloc: Global, order: &[usize]) -> Result<Vec<usize>, Fail> {
 }
 
 // The same places in another order: each next one is put at a drawn place.
-fn shuffled(alloc: Global, draws: &mut Draws, order: &[usize]) -> Result<Vec<usize>, Fail> {
+pub(crate) fn shuffled(
+    alloc: Global,
+    draws: &mut Draws,
+    order: &[usize],
+) -> Result<Vec<usize>, Fail> {
     let mut mixed = Vec::new(alloc);
     for &place in order {
         let at = draws.below(mixed.len() + 1).min(mixed.len());

@@ -1,14 +1,26 @@
 //! The program: it reads the words of the command line, and does the command that they are.
 //!
 //! `run` is the top call, over any files, entropy, clock, source, sink and sealer. `specs/Words.antt` says what words mean,
-//! `specs/Show.antt` and `specs/Newkey.antt` what each command does, and `specs/Running.antt` what `run` promises. `main` hands in the
-//! words and the real objects, and ends with the status.
+//! `specs/Make.antt`, `specs/Newkey.antt`, `specs/Merge.antt` and `specs/Show.antt` what each command does, and
+//! `specs/Running.antt` what `run` promises, `specs/MergeLaws.antt` what merges come to together. `main` hands in the words and
+//! the real objects, and ends with the status.
 #![tactic(auto)]
 
 mod command;
+mod fate;
+mod fate_text;
 mod faults;
+mod giving;
 #[cfg(test)]
 mod histories;
+mod make;
+mod make_laws;
+#[cfg(test)]
+mod make_tests;
+mod merge;
+mod merge_laws;
+#[cfg(test)]
+mod merge_tests;
 mod newkey;
 #[cfg(test)]
 mod reef;

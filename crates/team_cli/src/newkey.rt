@@ -1,7 +1,7 @@
-ghost use Rattle.std.specs.Prelude.{◌≡◌, ◌≤◌, ◌<◌, ◌⊎◌, ◌++◌, ◌∷◌, [], List, ℕ, IfOk, OnOk, codes};
-ghost use Rattle.tg_text.specs.Spelling.{spell_base64, spell_hex};
+ghost use Rattle.std.specs.Prelude.{◌≡◌, ◌≤◌, ◌<◌, ◌⊎◌, ◌++◌, ◌∷◌, [], List, ℕ, IfOk, OnOk, IsTrue, codes};
+ghost use Rattle.tg_text.specs.Spelling.{is_user_name, spell_base64, spell_hex};
 ghost use Rattle.tg_outside.specs.Causes.{HasCauseOrMemory};
-ghost use Rattle.lms_keep.specs.KeyText.{AreKinds, key_text};
+ghost use Rattle.lms_keep.specs.KeyText.{AreKinds, IsKeyState, key_text, leaves};
 ghost use Rattle.outcomes.specs.Steps.{World, after, draws, puts};
 ghost use Rattle.outcomes.specs.Seeing.{Seen, Counts, Tells, IsCut};
 ghost use Rattle.outcomes.specs.Ending.{Prepares, Stops, IsCaused, IsFaulted};
@@ -20,12 +20,14 @@ use tg_outside::{Clock, Entropy, Fault, Files, MakeFault, Sink, Source, StepLedg
 use tg_text::{Bytes, Memory, UserName, Word, write_base64, write_hex};
 
 // A key of the next three words.
-fn draw_key<E: Entropy>(entropy: &mut E, user: UserName) -> Result<KeyState, Fault>
+pub(crate) fn draw_key<E: Entropy>(entropy: &mut E, user: UserName) -> Result<KeyState, Fault>
     ensures done { (seen : Seen) (w : World) → Tells (record seen { draws = E.left entropy.old }) w
         → IfOk result (λ s. (s ≡ drawn_key user w) × Tells (record seen { draws = E.left entropy.new }) (after (draws 3) w)) }
     ensures cut { (seen : Seen) (w : World) → Tells (record seen { draws = E.left entropy.old }) w
         → IsCut (record seen { draws = E.left entropy.new }) (draws 3) w }
     ensures kinds { IfOk result (λ s. AreKinds s.lms s.ots) }
+    ensures range { IsTrue (is_user_name user) → IfOk result (λ s. IsKeyState s) }
+    ensures fresh { IfOk result (λ s. s.next < leaves s.lms) }
     ensures cause { HasCauseOrMemory (E.faults entropy.old) (E.faults entropy.new) result }
 {
     match make_key(entropy, user) {
@@ -148,7 +150,7 @@ fn newkey_words(command: &Command) -> (&Word, &UserName)
 {
     match command {
         Command::Newkey { key_file, user } => (key_file, user),
-        Command::Show { .. } => unreachable!(),
+        _ => unreachable!(),
     }
 }
 

@@ -1,9 +1,11 @@
-ghost use Rattle.std.specs.Prelude.{◌≡◌, ◌≢◌, ◌<◌, ◌⊎◌, map, None, Err, IfOk, string_bytes, codes};
+ghost use Rattle.std.specs.Prelude.{◌≡◌, ◌≢◌, ◌<◌, map, None, Err, IfOk, IfSome, string_bytes, codes};
 ghost use Rattle.outcomes.specs.Ending.{IsCaused};
-ghost use Rattle.team_cli.specs.Words.{command_of};
-ghost use Rattle.team_cli.specs.Running.{RunsCommand, RunsWords};
+ghost use Rattle.team_cli.specs.Words.{IsRead, command_of};
+ghost use Rattle.team_cli.specs.Running.{IsStatusOf, RunsCommand, RunsWords};
 
 use crate::command::{Command, command_of};
+use crate::make::run_make;
+use crate::merge::run_merge;
 use crate::newkey::run_newkey;
 use crate::show::run_show;
 use lockboxes::Sealer;
@@ -35,8 +37,8 @@ pub fn run<F: Files, E: Entropy, C: Clock, I: Source, O: Sink, K: Sealer, L: Ste
     ensures usage { command_of (map string_bytes words.now) ≡ None → result < 5 → result ≡ 2 }
     ensures only_usage { result ≡ 2 → command_of (map string_bytes words.now) ≡ None }
 
-    // A command is done, or a file isn't what it needs.
-    ensures told { command_of (map string_bytes words.now) ≢ None → result < 5 → (result ≡ 0) ⊎ (result ≡ 3) }
+    // A command ends as it may: with 1 where it gives items, and else with 0 or 3.
+    ensures statuses { IfSome (command_of (map string_bytes words.now)) (λ command. result < 5 → IsStatusOf command result) }
 {
     match command_of(alloc, words) {
         Ok(Some(command)) => {
@@ -60,21 +62,32 @@ fn run_command<F: Files, E: Entropy, C: Clock, I: Source, O: Sink, K: Sealer, L:
     sealer: &K,
     steps: &mut Steps<L>,
 ) -> u8
+    requires { IsRead command.now }
     ensures runs { RunsCommand K.public command.now
         (record { files = F.files files.old; draws = E.left entropy.old; moment = C.moment clock.old; input = I.left input.old; taken = O.taken out.old })
         (record { files = F.files files.new; draws = E.left entropy.new; moment = C.moment clock.new; input = I.left input.new; taken = O.taken out.new }) result }
     ensures cause { IsCaused (record { files = F.faults files.old; draws = E.faults entropy.old; input = I.faults input.old; taken = O.faults out.old })
         (record { files = F.faults files.new; draws = E.faults entropy.new; input = I.faults input.new; taken = O.faults out.new }) result }
-    ensures status { result < 5 → (result ≡ 0) ⊎ (result ≡ 3) }
+    ensures status { result < 5 → IsStatusOf command.now result }
 {
     match command {
-        Command::Show { .. } => {
-            run_show(
+        Command::Make { .. } => {
+            run_make(
                 alloc, command, files, entropy, clock, input, out, sealer, steps,
             )
         }
         Command::Newkey { .. } => {
             run_newkey(
+                alloc, command, files, entropy, clock, input, out, sealer, steps,
+            )
+        }
+        Command::Merge { .. } => {
+            run_merge(
+                alloc, command, files, entropy, clock, input, out, sealer, steps,
+            )
+        }
+        Command::Show { .. } => {
+            run_show(
                 alloc, command, files, entropy, clock, input, out, sealer, steps,
             )
         }

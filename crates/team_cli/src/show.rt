@@ -1,10 +1,6 @@
-ghost use Rattle.std.specs.Prelude.{◌≡◌, ◌<◌, ◌≤◌, ◌⊎◌, List, length, ℕ, Option, IfOk, IfSome};
+ghost use Rattle.std.specs.Prelude.{◌≡◌, ◌<◌, ◌⊎◌, List, ℕ, Option, IfOk, IfSome};
 ghost use Rattle.std.specs.FinMap as fin;
-ghost use Rattle.std.specs.List.{AllByRecursion};
-ghost use Rattle.team_sets.specs.OrderLaws.{IsSet};
-ghost use Rattle.team_model.specs.Judging.{name_of};
 ghost use Rattle.team_model.specs.ShowText.{show_text};
-ghost use Rattle.link_text.specs.LinkText.{IsValid, text};
 ghost use Rattle.tg_outside.specs.Causes.{HasCauseOrMemory};
 ghost use Rattle.outcomes.specs.Seeing.{Seen};
 ghost use Rattle.outcomes.specs.Ending.{Prepares, IsCaused};
@@ -14,15 +10,16 @@ ghost use Rattle.team_cli.specs.Running.{RunsCommand};
 
 use crate::command::Command;
 use crate::faults::file_fault;
+use link_graph::Graph;
 use lockboxes::Sealer;
 use outcomes::{Answer, conclude};
 use replica::Replica;
 use std::alloc::Global;
-use team_files::{FileFault, FileView, file_is_read_once, read_file};
-use team_model::{Link, text_is_of_set};
+use team_files::{FileFault, file_is_read_once, read_graph};
+use team_model::text_is_of_set;
 use team_report::{show_is_of_view, show_text};
 use tg_outside::{Clock, Entropy, Fault, Files, Sink, Source, StepLedger, Steps};
-use tg_text::{Bytes, Items, LinkName, Memory, Word};
+use tg_text::{Bytes, Memory, Word};
 
 // The text of `show` of the team file that the bytes are, `None` where they are none. There is one such text.
 fn shown(alloc: Global, bytes: &[u8]) -> Result<Option<Bytes>, Memory>
@@ -37,23 +34,20 @@ fn shown(alloc: Global, bytes: &[u8]) -> Result<Option<Bytes>, Memory>
 fn show_file(alloc: Global, bytes: &[u8]) -> Result<Option<Bytes>, Memory>
     ensures { IfOk result (λ found. Shows bytes.now found) }
 {
-    match read_file(alloc, bytes) {
-        Ok(FileView { team, links }) => Ok(Some(show_links(alloc, team, links)?)),
+    match read_graph(alloc, bytes) {
+        Ok(graph) => Ok(Some(show_graph(alloc, graph)?)),
         Err(FileFault::BadFile) => Ok(None),
         Err(FileFault::Memory) => Err(Memory),
     }
 }
 
-// The text of `show` of a set of links of a team.
-fn show_links(alloc: Global, team: LinkName, links: Items<Link>) -> Result<Bytes, Memory>
-    requires valid { AllByRecursion (λ l. IsValid team (text l) l) links }
-    requires set { IsSet name_of links }
-    requires few { length links ≤ 16384 }
-    ensures { IfOk result (λ out. out ≡ show_text team links) }
+// The text of `show` of the links that a graph holds.
+fn show_graph(alloc: Global, graph: Graph) -> Result<Bytes, Memory>
+    ensures { IfOk result (λ out. out ≡ show_text graph.team graph.links) }
 {
     show_is_of_view();
-    let replica = Replica::with_links(alloc, team, links)?;
-    show_text(alloc, &team, replica.view())
+    let replica = Replica::with_graph(alloc, graph)?;
+    show_text(alloc, &replica.team(), replica.view())
 }
 
 // All of `show` but the printing.
@@ -80,7 +74,7 @@ fn file_shown(command: &Command) -> &Word
 {
     match command {
         Command::Show { file } => file,
-        Command::Newkey { .. } => unreachable!(),
+        _ => unreachable!(),
     }
 }
 

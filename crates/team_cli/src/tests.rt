@@ -11,20 +11,20 @@ use tg_text::{Bytes, write_decimal};
 // The links of a first team, each the leaf that signs it and its body. Ann's key has types 5 and 3, the id of sixteen bytes 0x11
 // and the seed of 32 bytes 0x22; zed's has the id of bytes 0x44 and the seed of bytes 0x55. Names were computed by another
 // program: by name the links stand in the order JOIN, ROOT, LOW, HIGH, STRANGER.
-const HEADER: &str =
+pub(crate) const HEADER: &str =
     "team-file 1 6f8a7ebb582fa436a28f295badc9b20aebfe98fc6e971bee5f0ddb1315c8b8b2\n";
 
-const ROOT: (u32, &str) = (
+pub(crate) const ROOT: (u32, &str) = (
     0,
     "team-link 1\nteam -\nuser ann\nkey AAAABQAAAAMRERERERERERERERERERERhCAHHk/MAcG6YBdqu5eicnNHFgOEXrl7IPpOQqaP3+0=\ntime 1000000\nact found deb0e38ced1e41de6f92e70e80c418d2d356afaaa99e26f5939dbc7d3ef4772a Reef crew\n",
 );
 
-const LOW: (u32, &str) = (
+pub(crate) const LOW: (u32, &str) = (
     1,
     "team-link 1\nteam 6f8a7ebb582fa436a28f295badc9b20aebfe98fc6e971bee5f0ddb1315c8b8b2\nprev 6f8a7ebb582fa436a28f295badc9b20aebfe98fc6e971bee5f0ddb1315c8b8b2\nuser ann\nkey AAAABQAAAAMRERERERERERERERERERERhCAHHk/MAcG6YBdqu5eicnNHFgOEXrl7IPpOQqaP3+0=\ntime 1000060\nact title Low tide\n",
 );
 
-const HIGH: (u32, &str) = (
+pub(crate) const HIGH: (u32, &str) = (
     2,
     "team-link 1\nteam 6f8a7ebb582fa436a28f295badc9b20aebfe98fc6e971bee5f0ddb1315c8b8b2\nprev 6f8a7ebb582fa436a28f295badc9b20aebfe98fc6e971bee5f0ddb1315c8b8b2\nuser ann\nkey AAAABQAAAAMRERERERERERERERERERERhCAHHk/MAcG6YBdqu5eicnNHFgOEXrl7IPpOQqaP3+0=\ntime 1000120\nact title High tide\n",
 );
@@ -39,7 +39,7 @@ const STRANGER: (u32, &str) = (
     "team-link 1\nteam 6f8a7ebb582fa436a28f295badc9b20aebfe98fc6e971bee5f0ddb1315c8b8b2\nprev 6f8a7ebb582fa436a28f295badc9b20aebfe98fc6e971bee5f0ddb1315c8b8b2\nuser zed\nkey AAAABQAAAANEREREREREREREREREREREBd5lIIYBuj1g+Sfm4iuzSj9jlAiek71WqXnkOupw2ew=\ntime 1000240\nact title Shark reef\n",
 );
 
-fn sign(alloc: Global, tree: &Tree, leaf: u32, body: &[u8]) -> Result<Bytes, Fail> {
+pub(crate) fn sign(alloc: Global, tree: &Tree, leaf: u32, body: &[u8]) -> Result<Bytes, Fail> {
     if leaf >= tree.leaves() {
         return Err(Fail::from("no such leaf"));
     }
@@ -57,7 +57,7 @@ fn text_of(alloc: Global, own: &Tree, other: &Tree, leaf: u32, body: &str) -> Re
 }
 
 // Adds the frame of a link.
-fn add_frame(file: &mut Bytes, text: &[u8]) -> Result<(), Fail> {
+pub(crate) fn add_frame(file: &mut Bytes, text: &[u8]) -> Result<(), Fail> {
     file.append(b"link ")?;
     write_decimal(file, text.len() as u64)?;
     file.append(b"\n")?;
@@ -65,7 +65,7 @@ fn add_frame(file: &mut Bytes, text: &[u8]) -> Result<(), Fail> {
 }
 
 // A team file of these links.
-fn file_of(alloc: Global, links: &[(u32, &str)]) -> Result<Bytes, Fail> {
+pub(crate) fn file_of(alloc: Global, links: &[(u32, &str)]) -> Result<Bytes, Fail> {
     let own = Tree::make(alloc, 5, 3, &[0x11; 16], &[0x22; 32])?;
     let other = Tree::make(alloc, 5, 3, &[0x44; 16], &[0x55; 32])?;
     let mut file = Bytes::from_slice(alloc, HEADER.as_bytes())?;
@@ -77,7 +77,7 @@ fn file_of(alloc: Global, links: &[(u32, &str)]) -> Result<Bytes, Fail> {
 }
 
 // What a run of these words ends with, and what it prints, where there are words to draw.
-fn outcome_with(
+pub(crate) fn outcome_with(
     alloc: Global,
     words: &[&str],
     files: &mut MemoryFiles,
@@ -102,7 +102,7 @@ fn outcome_with(
 }
 
 // The same where there are none.
-fn outcome_of(
+pub(crate) fn outcome_of(
     alloc: Global,
     words: &[&str],
     files: &mut MemoryFiles,
@@ -213,7 +213,7 @@ fn an_absent_file_is_told(rt: HostRuntime) -> Result<(), Fail> {
 #[test]
 fn other_words_are_usage(rt: HostRuntime) -> Result<(), Fail> {
     let alloc = rt.alloc();
-    let rows: [&[&str]; 11] = [
+    let rows: [&[&str]; 23] = [
         &[],
         &["show"],
         &["show", "-x"],
@@ -225,6 +225,18 @@ fn other_words_are_usage(rt: HostRuntime) -> Result<(), Fail> {
         &["newkey", "-a.key", "ann"],
         &["newkey", "a.key", "-ann"],
         &["newkey", "a.key", "Ann"],
+        &["make", "a.team", "a.key", "ann"],
+        &["make", "a.team", "a.team", "ann", "Reef crew"],
+        &["make", "a.team", "-a.key", "ann", "Reef crew"],
+        &["make", "a.team", "a.key", "Ann", "Reef crew"],
+        &["make", "a.team", "a.key", "ann", ""],
+        &["make", "a.team", "a.key", "ann", "-Reef crew"],
+        &["make", "a.team", "a.key", "ann", "Reef\ncrew"],
+        &["merge", "a.team"],
+        &["merge", "a.team", ""],
+        &["fly", "a.team", "a.key", "ann", "Reef crew"],
+        &["act", "a.team", "a.key", "fly"],
+        &["model", "7", "199"],
     ];
     for words in rows {
         let mut files = MemoryFiles::new(alloc, Vec::new(alloc));
@@ -269,7 +281,7 @@ fn a_failed_write_ends_in_5(rt: HostRuntime) -> Result<(), Fail> {
 }
 
 // Three words to draw, and what is made of them. The key, the device and the seal were computed by another implementation.
-const WORDS: [[u8; 32]; 3] = [[0x11; 32], [0x22; 32], [0x33; 32]];
+pub(crate) const WORDS: [[u8; 32]; 3] = [[0x11; 32], [0x22; 32], [0x33; 32]];
 
 const KEY_FILE: &str =
     "team-key 1\nuser bo\nkinds 6 3\nid 11111111111111111111111111111111\nseed 2222222222222222222222222222222222222222222222222222222222222222\nsecret 3333333333333333333333333333333333333333333333333333333333333333\nnext 0\n";
@@ -277,7 +289,7 @@ const KEY_FILE: &str =
 const DEVICE: &str =
     "device d7c3dcf09088e5ee49b3210bfdfc005867bf46fadc43fc691a988d5ad4b70914\nkey AAAABgAAAAMRERERERERERERERERERERSLjq4NB5D1RXa1MeI+Kf8y2qRlqf4MWTqfe8ZzDKa4g=\nseal deb0e38ced1e41de6f92e70e80c418d2d356afaaa99e26f5939dbc7d3ef4772a\n";
 
-fn is_file(files: &MemoryFiles, name: &str, text: &str) -> bool {
+pub(crate) fn is_file(files: &MemoryFiles, name: &str, text: &str) -> bool {
     match files.get(name) {
         Some(bytes) => bytes.as_slice() == text.as_bytes(),
         None => false,

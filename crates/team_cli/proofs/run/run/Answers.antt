@@ -7,7 +7,7 @@ use Rattle.team_cli.proofs.run.run.Goals as goal
 
 pub returns-in-Ok-None-clause-runs : goal.returns-in-Ok-None-clause-runs
 returns-in-Ok-None-clause-runs g c =
-    let none = rw c.in-Ok-None.field-0-is at c.in-Ok-None.ensures in
+    let none = rw c.in-Ok-None.field-0-is at c.in-Ok-None.ensures.is in
     let old : Seen = record {
       files = g.F.Files.files c.args.files.now;
       draws = g.E.Entropy.left c.args.entropy.now;
