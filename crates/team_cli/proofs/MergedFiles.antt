@@ -1,8 +1,10 @@
 -- Bundles that are merged into a file one behind the other.
-use Rattle.std.proofs.Common.{◌≡◌, ◌↔◌, ◌⊎◌, inl, inr, ℕ, List, [], ◌∷◌, refl, sym, ◌∙◌, ap, subst}
+use Rattle.std.proofs.Common.{◌≡◌, ◌↔◌, ◌⊎◌, inl, inr, ℕ, List, [], ◌∷◌, length, ◌≤◌, refl, sym, ◌∙◌, ap, subst}
 use Rattle.team_sets.specs.Names.{Name}
 use Rattle.team_sets.specs.Members.{HaveSameMembers, IsIn}
+use Rattle.team_sets.specs.OrderLaws.{IsSet}
 use Rattle.team_sets.proofs.Pasts.{all_at}
+use Rattle.team_sets.proofs.Sorted.{all_of}
 use Rattle.team_model.specs.declared.terms.Link.{Link}
 use Rattle.link_text.specs.LinkText.{IsValid, LinkIsSpelledOnce, Reads, text}
 use Rattle.link_text.specs.TeamFile.{FileIsOfSet, IsFileOf, IsHeld, file_text}
@@ -15,7 +17,7 @@ use Rattle.team_files.specs.declared.item.Item.{Item}
 use Rattle.team_cli.specs.declared.fate.Fate.{Fate}
 use Rattle.team_cli.specs.Merge.{IsMerged}
 use Rattle.team_cli.specs.MergeLaws.{AreMerged, Fits, HasItem, IsAmong, IsTextIn, IsTextOf, IsUnion, IsValidText, MergesInAnyOrder, NoClash}
-use Rattle.team_cli.proofs.Unions.{clash_later, clash_within, fits_later, fits_within, items_union, union_join, union_same}
+use Rattle.team_cli.proofs.Unions.{IsOneOf, clash_later, clash_within, fits_later, fits_within, items_union, union_join, union_same}
 
 -- held sets of the same texts have the same links
 module _ (once : LinkIsSpelledOnce) (a b : Held) (held : IsHeld a.team a.links) (other : IsHeld b.team b.links) (same : (t : List ℕ) → HasText a.links t → HasText b.links t) where
@@ -26,27 +28,61 @@ module _ (once : LinkIsSpelledOnce) (a b : Held) (held : IsHeld a.team a.links) 
       let theirs = (all_at (λ (l : Link). IsValid b.team (text l) l) b.links other.valid y.0 y.1).reads in
       subst (λ (l : Link). IsIn l b.links) (once (text x) y.0 x (subst (λ (t : List ℕ). Reads t y.0) y.2 theirs) mine) y.1
 
--- and so the same file
-module _ (once : LinkIsSpelledOnce) (of_set : FileIsOfSet) where
-  same_file : (old a b : Held) (G H : List ℕ → Type 0) → ((t : List ℕ) → G t ↔ H t) → IsUnion old G a → IsUnion old H b → file_text a.team a.links ≡ file_text b.team b.links
-  same_file old a b G H same mine theirs =
-      of_set a.team a.links b.links mine.held.set theirs.held.set
-      (record { forth = link_there once a b mine.held theirs.held to; back = link_there once b a theirs.held mine.held back })
-      ∙ ap (λ (t : Name). file_text t b.links) (mine.team ∙ sym theirs.team)
-    where
-      to : (t : List ℕ) → HasText a.links t → HasText b.links t
-      to t h = go ((mine.texts t).0 h)
-        where
-          go : HasText old.links t ⊎ (G t × IsValidText old.team t) → HasText b.links t
-          go (inl k) = (theirs.texts t).1 (inl k)
-          go (inr g) = (theirs.texts t).1 (inr ((same t).0 g.0, g.1))
+-- what is held is valid
+valid_there : (h : Held) → IsHeld h.team h.links → (t : List ℕ) → HasText h.links t → IsValidText h.team t
+valid_there h held t k = (k.0, subst (λ (b : List ℕ). IsValid h.team b k.0) k.2 (all_at (λ (l : Link). IsValid h.team (text l) l) h.links held.valid k.0 k.1))
 
-      back : (t : List ℕ) → HasText b.links t → HasText a.links t
-      back t h = go ((theirs.texts t).0 h)
-        where
-          go : HasText old.links t ⊎ (H t × IsValidText old.team t) → HasText a.links t
-          go (inl k) = (mine.texts t).1 (inl k)
-          go (inr g) = (mine.texts t).1 (inr ((same t).1 g.0, g.1))
+-- two held sets of one team, where the same valid texts are held or given
+module _ (old second : Held) (G H : List ℕ → Type 0) (team : second.team ≡ old.team) (same : (b : List ℕ) → IsValidText old.team b → IsAmong old G b ↔ IsAmong second H b) where
+  as_first : (b : List ℕ) (l : Link) → IsValid second.team b l → IsValid old.team b l
+  as_first b l v = subst (λ (t : Name). IsValid t b l) team v
+
+  clash_other : NoClash old G → NoClash second H
+  clash_other apart a b k l x y v w e = apart a b k l ((same a (k, as_first a k v)).1 x) ((same b (l, as_first b l w)).1 y) (as_first a k v) (as_first b l w) e
+
+  fits_other : Fits old G → Fits second H
+  fits_other fits links set all =
+      subst (λ (t : Name). (length links ≤ 16384) × (length (file_text t links) ≤ 268435456)) (sym team)
+      (fits links set (all_of (IsOneOf old G) links (λ l k. one l (all_at (IsOneOf second H) links all l k))))
+    where
+      one : (l : Link) → IsOneOf second H l → IsOneOf old G l
+      one l h = let v = as_first (text l) l h.0 in (v, (same (text l) (l, v)).1 h.1)
+
+  -- their unions have the same texts
+  module _ (a b : Held) (mine : IsUnion old G a) (theirs : IsUnion second H b) where
+    over : (t : List ℕ) → HasText a.links t → HasText b.links t
+    over t h = back ((same t valid).0 (among ((mine.texts t).0 h)))
+      where
+        valid : IsValidText old.team t
+        valid = subst (λ (n : Name). IsValidText n t) mine.team (valid_there a mine.held t h)
+
+        among : HasText old.links t ⊎ (G t × IsValidText old.team t) → IsAmong old G t
+        among (inl k) = inl k
+        among (inr g) = inr g.0
+
+        back : IsAmong second H t → HasText b.links t
+        back (inl k) = (theirs.texts t).1 (inl k)
+        back (inr g) = (theirs.texts t).1 (inr (g, subst (λ (n : Name). IsValidText n t) (sym team) valid))
+
+    under : (t : List ℕ) → HasText b.links t → HasText a.links t
+    under t h = back ((same t valid).1 (among ((theirs.texts t).0 h)))
+      where
+        valid : IsValidText old.team t
+        valid = subst (λ (n : Name). IsValidText n t) (theirs.team ∙ team) (valid_there b theirs.held t h)
+
+        among : HasText second.links t ⊎ (H t × IsValidText second.team t) → IsAmong second H t
+        among (inl k) = inl k
+        among (inr g) = inr g.0
+
+        back : IsAmong old G t → HasText a.links t
+        back (inl k) = (mine.texts t).1 (inl k)
+        back (inr g) = (mine.texts t).1 (inr (g, valid))
+
+    same_file : LinkIsSpelledOnce → FileIsOfSet → file_text a.team a.links ≡ file_text b.team b.links
+    same_file once of_set =
+        of_set a.team a.links b.links mine.held.set theirs.held.set
+        (record { forth = link_there once a b mine.held theirs.held over; back = link_there once b a theirs.held mine.held under })
+        ∙ ap (λ (t : Name). file_text t b.links) (mine.team ∙ sym (theirs.team ∙ team))
 
 -- a bundle that was merged into a file, whose links are the old ones
 module _ (once : LinkIsSpelledOnce) (file_once : FileIsReadOnce) (bytes bundle : List ℕ) (old new : Held) (fates : List Fate) (m : IsMerged bytes bundle new fates)
@@ -120,11 +156,8 @@ module _ (once : LinkIsSpelledOnce) (file_once : FileIsReadOnce) (bundle_once : 
       (later.0, later.1, union_join old mid G H K first parts later.0 later.2)
 
   pub any_order : FileIsOfSet → MergesInAnyOrder
-  any_order of_set bytes last other old bundles others file apart fits same merged again =
+  any_order of_set bytes start last other old second bundles others file begun team apart fits same merged again =
+      let G = IsTextIn bundles in let H = IsTextIn others in
       let mine = files_union bytes last old bundles file apart fits merged in
-      let theirs = files_union bytes other old others file (clash_within old old (IsTextIn bundles) (IsTextIn others) refl among apart) (fits_within old old (IsTextIn bundles) (IsTextIn others) refl among fits) again in
-      mine.1 ∙ same_file once of_set old mine.0 theirs.0 (IsTextIn bundles) (IsTextIn others) same mine.2 theirs.2 ∙ sym theirs.1
-    where
-      among : (b : List ℕ) → IsAmong old (IsTextIn others) b → IsAmong old (IsTextIn bundles) b
-      among b (inl h) = inl h
-      among b (inr t) = inr ((same b).1 t)
+      let theirs = files_union start other second others begun (clash_other old second G H team same apart) (fits_other old second G H team same fits) again in
+      mine.1 ∙ same_file old second G H team same mine.0 theirs.0 mine.2 theirs.2 once of_set ∙ sym theirs.1

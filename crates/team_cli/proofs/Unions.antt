@@ -26,7 +26,7 @@ use Rattle.team_cli.specs.Giving.{Becomes, IsGiven, IsRefused, TextBecomes}
 use Rattle.team_cli.specs.MergeLaws.{Fits, HasItem, IsAmong, IsUnion, IsValidText, NoClash}
 
 -- a link among the texts that are held or given
-abbrev IsOneOf : Held → (List ℕ → Type 0) → Link → Type 0
+abbrev pub IsOneOf : Held → (List ℕ → Type 0) → Link → Type 0
 IsOneOf old Given l = IsValid old.team (text l) l × IsAmong old Given (text l)
 
 -- where fewer texts are given to a set of the same team, there is no clash either, and all fits

@@ -35,7 +35,7 @@ module _ (old : Held) (Given : List ℕ → Type 0) where
   abbrev pub NoClash : Type 0
   NoClash = (a b : List ℕ) (k l : Link) → IsAmong a → IsAmong b → IsValid old.team a k → IsValid old.team b l → k.name ≡ l.name → a ≡ b
 
-  -- a set of valid links whose texts are all among these is within the limits of a team
+  -- every set of valid links whose texts are all among these is within the limits of a team
   abbrev pub Fits : Type 0
   Fits = (links : List Link) → IsSet name_of links → AllByRecursion (λ l. IsValid old.team (text l) l × IsAmong (text l)) links
       → (length links ≤ 16384) × (length (file_text old.team links) ≤ 268435456)
@@ -64,9 +64,11 @@ IsTextOf bundle b = (items : List Item) × IsBundle bundle items × HasItem item
 abbrev pub IsTextIn : List (List ℕ) → List ℕ → Type 0
 IsTextIn bundles b = (bundle : List ℕ) × IsIn bundle bundles × IsTextOf bundle b
 
--- Bundles that have the same texts, however these are shared out among them and in whatever order and number they come, make one file
--- of a file. The old links are those of the file before
+-- Two files of one team end as the same bytes where the same valid texts were given to them, those that they held before included: whatever
+-- bundles were merged into each, in whatever order and number these came, and whatever else stood in them. `old` and `second` are what the
+-- files held before
 abbrev pub MergesInAnyOrder : Type 0
-MergesInAnyOrder = (bytes last other : List ℕ) (old : Held) (bundles others : List (List ℕ)) → IsFileOf bytes old.team old.links
-    → NoClash old (IsTextIn bundles) → Fits old (IsTextIn bundles) → ((b : List ℕ) → IsTextIn bundles b ↔ IsTextIn others b)
-    → AreMerged bytes bundles last → AreMerged bytes others other → last ≡ other
+MergesInAnyOrder = (bytes start last other : List ℕ) (old second : Held) (bundles others : List (List ℕ)) → IsFileOf bytes old.team old.links
+    → IsFileOf start second.team second.links → second.team ≡ old.team → NoClash old (IsTextIn bundles) → Fits old (IsTextIn bundles)
+    → ((b : List ℕ) → IsValidText old.team b → IsAmong old (IsTextIn bundles) b ↔ IsAmong second (IsTextIn others) b)
+    → AreMerged bytes bundles last → AreMerged start others other → last ≡ other

@@ -17,7 +17,7 @@ RunsCommand public_of (Newkey key_file user) old new status = Runs (newkey_outco
 RunsCommand public_of (Merge file bundle) old new status = RunsMerge file bundle old new status
 RunsCommand public_of (Show file) old new status = RunsShow file old new status
 
--- the statuses below 5 with which a command can end: 1 is that of refused items alone
+-- the statuses below 5 with which a command can end: only one that gives items can end with 1
 abbrev pub IsStatusOf : Command → ℕ → Type 0
 IsStatusOf (Make file key_file user title) status = (status ≡ 0) ⊎ (status ≡ 3)
 IsStatusOf (Newkey key_file user) status = (status ≡ 0) ⊎ (status ≡ 3)

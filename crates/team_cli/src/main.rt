@@ -2,8 +2,8 @@
 //!
 //! `run` is the top call, over any files, entropy, clock, source, sink and sealer. `specs/Words.antt` says what words mean,
 //! `specs/Make.antt`, `specs/Newkey.antt`, `specs/Merge.antt` and `specs/Show.antt` what each command does, and
-//! `specs/Running.antt` what `run` promises, `specs/MergeLaws.antt` what merges come to together. `main` hands in the words and
-//! the real objects, and ends with the status.
+//! `specs/Running.antt` what `run` promises, `specs/MergeLaws.antt` what merges come to together, and `specs/MakeLaws.antt` what the
+//! file of a new team is. `main` hands in the words and the real objects, and ends with the status.
 #![tactic(auto)]
 
 mod command;

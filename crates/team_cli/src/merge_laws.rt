@@ -10,8 +10,8 @@ pub fn merge_is_union()
     link_is_spelled_once();
 }
 
-/// Bundles that are merged into a file one behind the other, where no names clash and all fits,
-/// make the same bytes of it in whatever order they come.
+/// Two files of one team to which the same valid texts were given, where no names clash and all fits, end as the same bytes:
+/// whatever bundles were merged into each, and in whatever order and number these came.
 pub fn merges_in_any_order()
     ensures { MergesInAnyOrder }
 {

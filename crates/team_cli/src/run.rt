@@ -37,7 +37,7 @@ pub fn run<F: Files, E: Entropy, C: Clock, I: Source, O: Sink, K: Sealer, L: Ste
     ensures usage { command_of (map string_bytes words.now) ≡ None → result < 5 → result ≡ 2 }
     ensures only_usage { result ≡ 2 → command_of (map string_bytes words.now) ≡ None }
 
-    // A command ends as it may: with 1 where it gives items, and else with 0 or 3.
+    // A command that gives items ends with 0, 1 or 3, every other one with 0 or 3.
     ensures statuses { IfSome (command_of (map string_bytes words.now)) (λ command. result < 5 → IsStatusOf command result) }
 {
     match command_of(alloc, words) {
