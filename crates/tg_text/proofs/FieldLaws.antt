@@ -12,15 +12,12 @@ use Rattle.base64.specs.Engines.{standard}
 use Rattle.base64.specs.Rfc4648.{encode_symbols, padding_len}
 use Rattle.base64.proofs.EngineFacts.{decode_of-encode_of}
 use Rattle.tg_text.specs.Spelling.{AreBytes, IsTitle, begins_well, has_byte, is_name_byte, is_printing, is_user_name, spell_base64, spell_decimal, spell_hex}
+use Rattle.tg_text.proofs.Lists.{neither}
 use Rattle.tg_text.proofs.Splits.{lacks_append}
 
 both : (b c : Bool) → (b && c) ≡ true → (b ≡ true) × (c ≡ true)
 both true c h = (refl, h)
 both false c h = absurd (true≢false (sym h))
-
-neither : (b c : Bool) → (b || c) ≡ false → (b ≡ false) × (c ≡ false)
-neither true c h = absurd (true≢false h)
-neither false c h = (refl, h)
 
 both_lack : (b c : Bool) → b ≡ false → c ≡ false → (b || c) ≡ false
 both_lack true c hb hc = hb

@@ -3,7 +3,8 @@ use Rattle.std.proofs.Common.{◌≡◌, ℕ, ◌≤◌, ◌<◌, ◌^◌, false
 use Rattle.std.specs.Char.{is_ascii_digit}
 use Rattle.std.specs.Cmp.Lexicographic.{pointwise}
 use Rattle.hex.specs.Hex.{lower_digits}
-use Rattle.tg_text.specs.Spelling.{IsKeyId, IsScope, has_byte, is_name_byte, last_generation, spell_decimal, spell_hex, spell_key_id, spell_scope}
+use Rattle.tg_text.specs.KeySpelling.{IsKeyId, IsScope, last_generation, spell_key_id, spell_scope}
+use Rattle.tg_text.specs.Spelling.{has_byte, is_name_byte, spell_decimal, spell_hex}
 use Rattle.tg_text.specs.declared.keys.Scope.{Scope}
 use Rattle.tg_text.specs.declared.keys.Scope.TheVariants.{Team, Role, User, Device}
 use Rattle.tg_text.specs.declared.keys.KeyId.{KeyId}

@@ -4,19 +4,7 @@ use Rattle.std.specs.Cmp.Lexicographic.{pointwise}
 use Rattle.std.proofs.lemmas.Bool.{eq-eqb}
 use Rattle.std.proofs.lemmas.List.Folds.{list_any-append}
 use Rattle.tg_text.specs.Spelling.{has_byte}
-
-none_of : (b c : Bool) → (b || c) ≡ false → (b ≡ false) × (c ≡ false)
-none_of true c e = absurd (true≢false e)
-none_of false c e = (refl, e)
-
-head_is : (x y : ℕ) (xs ys : List ℕ) → x ∷ xs ≡ y ∷ ys → x ≡ y
-head_is x y xs ys e = cc
-
-tail_is : (x y : ℕ) (xs ys : List ℕ) → x ∷ xs ≡ y ∷ ys → xs ≡ ys
-tail_is x y xs ys e = cc
-
-same_list : (x y : ℕ) (xs ys : List ℕ) → x ≡ y → xs ≡ ys → x ∷ xs ≡ y ∷ ys
-same_list x y xs ys h t = cc
+use Rattle.tg_text.proofs.Lists.{head_is, neither, same_list, tail_is}
 
 not_first : (c b : ℕ) (bs : List ℕ) → c ≡ b → has_byte c (b ∷ bs) ≡ false → ⊥
 not_first c b bs e none = true≢false (rw (eq-eqb b c (sym e)) at none)
@@ -27,7 +15,7 @@ one_split c [] [] x y ha hb e = (refl, tail_is _ _ _ _ e)
 one_split c [] (b ∷ bs) x y ha hb e = absurd (not_first c b bs (head_is _ _ _ _ e) hb)
 one_split c (a ∷ r) [] x y ha hb e = absurd (not_first c a r (sym (head_is _ _ _ _ e)) ha)
 one_split c (a ∷ r) (b ∷ bs) x y ha hb e =
-    let rest = one_split c r bs x y (none_of _ _ ha).1 (none_of _ _ hb).1 (tail_is _ _ _ _ e) in
+    let rest = one_split c r bs x y (neither _ _ ha).1 (neither _ _ hb).1 (tail_is _ _ _ _ e) in
     (same_list a b r bs (head_is _ _ _ _ e) rest.0, rest.1)
 
 pub has_one : (c : ℕ) (a x : List ℕ) → has_byte c (a ++ c ∷ x) ≡ true

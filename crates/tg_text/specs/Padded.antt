@@ -3,7 +3,7 @@ use Rattle.std.proofs.Common.{arith, length-append}
 use Rattle.std.proofs.lemmas.List.{take-append-drop, length-take-le, drop-replicate, length-replicate}
 use Rattle.std.proofs.Math.Seq.{drop-append_seam}
 
--- A text of at most `size` bytes in an array of `size`, with zeros behind it.
+-- A text of at most `size` bytes in an array of `size`, with zeros after it.
 pub record IsPadded (size len : ℕ) (bytes : List ℕ) : Type 0 where
   pub fits : len ≤ size
   pub whole : length bytes ≡ size

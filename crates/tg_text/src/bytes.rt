@@ -92,6 +92,18 @@ impl Bytes {
         self.bytes.truncate(len);
     }
 
+    /// Keeps what was written after the first `before` bytes, or takes it back where the writing stopped for want of memory.
+    pub fn keep_whole(&mut self, before: usize, written: Result<(), Memory>) -> Result<(), Memory>
+        ensures same { result ≡ written }
+        ensures ok { OnOk result (self.new ≡ self.old) }
+        ensures err { OnErr result (self.new ≡ take before self.old) }
+    {
+        if written.is_err() {
+            self.truncate(before);
+        }
+        written
+    }
+
     /// A copy, with an allocator of its own.
     pub fn copy(&self, alloc: Global) -> Result<Bytes, Memory>
         ensures { IfOk result (λ it. it ≡ self.now) }

@@ -1,7 +1,8 @@
 //! The texts of key ids: a scope, a generation and a public half, with a slash between them. And the writing of scopes.
 ghost use Rattle.std.specs.Prelude.{◌≡◌, ◌≤◌, ◌++◌, ◌∷◌, List, ℕ, OnOk, OnErr};
 ghost use Rattle.tg_text.specs.Reading.{Reads};
-ghost use Rattle.tg_text.specs.Spelling.{IsKeyId, last_generation, spell_decimal, spell_key_id, spell_scope};
+ghost use Rattle.tg_text.specs.KeySpelling.{IsKeyId, last_generation, spell_key_id, spell_scope};
+ghost use Rattle.tg_text.specs.Spelling.{spell_decimal};
 
 use crate::bytes::Bytes;
 use crate::fields::{read_decimal, read_hex32};
@@ -56,10 +57,7 @@ pub fn write_key_id(out: &mut Bytes, key: &KeyId) -> Result<(), Memory>
 {
     let before = out.len();
     let written = extend_key_id(out, key);
-    if written.is_err() {
-        out.truncate(before);
-    }
-    written
+    out.keep_whole(before, written)
 }
 
 // As `write_key_id`, but some of the text stays where memory is short.
@@ -81,10 +79,7 @@ pub fn write_scope(out: &mut Bytes, scope: &Scope) -> Result<(), Memory>
 {
     let before = out.len();
     let written = extend_scope(out, scope);
-    if written.is_err() {
-        out.truncate(before);
-    }
-    written
+    out.keep_whole(before, written)
 }
 
 // As `write_scope`, but some of the text stays where memory is short.

@@ -1,6 +1,7 @@
 //! Laws on the spelling of fields, for the proofs of the crates above. The functions do nothing.
 ghost use Rattle.std.specs.Prelude.{◌≡◌, ◌<◌, ◌^◌, ℕ, List, false, IsTrue};
-ghost use Rattle.tg_text.specs.Spelling.{AreBytes, IsKeyId, IsScope, IsTitle, has_newline, has_space, is_user_name, spell_base64, spell_decimal, spell_hex, spell_key_id, spell_scope};
+ghost use Rattle.tg_text.specs.KeySpelling.{IsKeyId, IsScope, spell_key_id, spell_scope};
+ghost use Rattle.tg_text.specs.Spelling.{AreBytes, IsTitle, has_newline, has_space, is_user_name, spell_base64, spell_decimal, spell_hex};
 ghost use Rattle.tg_text.specs.declared.keys.KeyId.{KeyId};
 ghost use Rattle.tg_text.specs.declared.keys.Scope.{Scope};
 

@@ -10,6 +10,8 @@ mod items;
 mod key_text;
 mod keys;
 mod laws;
+mod limits;
+mod line_writing;
 mod lines;
 mod memory;
 mod names;
@@ -27,13 +29,12 @@ pub use items::Items;
 pub use key_text::{write_key_id, write_scope};
 pub use keys::{BoxLine, KeyId, KeyLines, Scope, compare_keys, compare_scopes};
 pub use laws::{fields_are_whole, spellings_differ};
-pub use lines::{Lines, split_once};
+pub use limits::{MOST_FILE_BYTES, MOST_LINK_BYTES, MOST_LINKS};
+pub use line_writing::{write_base64_line, write_decimal_line, write_hex_line, write_text_line};
+pub use lines::{Lines, split_once, strip_front};
 pub use memory::Memory;
 pub use names::{DeviceId, LinkName, PublicKey};
 pub use title::Title;
 pub use user_name::{RoleName, UserName};
 pub use word::Word;
 pub use writing::{write_base64, write_decimal, write_hex};
-
-#[cfg(test)]
-mod tests;

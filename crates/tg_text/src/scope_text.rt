@@ -1,7 +1,8 @@
-//! The texts of scopes: a kind, and behind a colon whose scope it is.
+//! The texts of scopes: a kind, and after a colon whose scope it is.
 ghost use Rattle.std.specs.Prelude.{◌≡◌, ◌++◌, ◌∷◌, false, codes};
 ghost use Rattle.tg_text.specs.Reading.{Reads};
-ghost use Rattle.tg_text.specs.Spelling.{IsScope, has_byte, spell_scope};
+ghost use Rattle.tg_text.specs.KeySpelling.{IsScope, spell_scope};
+ghost use Rattle.tg_text.specs.Spelling.{has_byte};
 
 use crate::fields::read_hex32;
 use crate::keys::Scope;
@@ -17,6 +18,24 @@ impl Scope {
         match split_once(text, b':') {
             Some((kind, name)) => read_named(kind, name),
             None => read_team(text),
+        }
+    }
+
+    /// A law: the name or the id of any scope is one. It does nothing at run time.
+    pub fn is_one(&self)
+        ensures { IsScope self.now }
+    {
+        match self {
+            Scope::Team => {}
+            Scope::Role(role) => {
+                role.as_slice();
+            }
+            Scope::User(user) => {
+                user.as_slice();
+            }
+            Scope::Device(device) => {
+                device.as_slice();
+            }
         }
     }
 }

@@ -14,10 +14,13 @@ pub struct Title {
 
 impl Model for Title {
     ghost use Rattle.std.specs.Prelude.{ℕ, List};
+    ghost use Rattle.tg_text.specs.Spelling.{IsTitle};
 
     ghost Value = { List ℕ };
 
     ghost view = { λ it. it.text };
+
+    ghost invariant = { λ it. IsTitle it.text };
 
     ghost inverse = { λ text. record { text = text } };
 }
@@ -38,7 +41,8 @@ impl Title {
 
     /// The bytes of the text, which is UTF-8.
     pub fn as_slice(&self) -> &[u8]
-        ensures { result.now ≡ self.now }
+        ensures bytes { result.now ≡ self.now }
+        ensures title { IsTitle self.now }
     {
         self.text.as_slice()
     }

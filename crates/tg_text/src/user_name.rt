@@ -12,11 +12,14 @@ pub struct UserName {
 }
 
 impl Model for UserName {
-    ghost use Rattle.std.specs.Prelude.{ℕ, List};
+    ghost use Rattle.std.specs.Prelude.{ℕ, List, IsTrue};
+    ghost use Rattle.tg_text.specs.Spelling.{is_user_name};
 
     ghost Value = { List ℕ };
 
     ghost view = { λ it. it.text };
+
+    ghost invariant = { λ it. IsTrue (is_user_name it.text) };
 
     ghost inverse = { λ text. record { text = text } };
 }
@@ -37,7 +40,8 @@ impl UserName {
 
     /// The bytes of the name, which are ASCII.
     pub fn as_slice(&self) -> &[u8]
-        ensures { result.now ≡ self.now }
+        ensures bytes { result.now ≡ self.now }
+        ensures name { IsTrue (is_user_name self.now) }
     {
         self.text.as_slice()
     }
@@ -50,11 +54,14 @@ pub struct RoleName {
 }
 
 impl Model for RoleName {
-    ghost use Rattle.std.specs.Prelude.{ℕ, List};
+    ghost use Rattle.std.specs.Prelude.{ℕ, List, IsTrue};
+    ghost use Rattle.tg_text.specs.Spelling.{is_user_name};
 
     ghost Value = { List ℕ };
 
     ghost view = { λ it. it.text };
+
+    ghost invariant = { λ it. IsTrue (is_user_name it.text) };
 
     ghost inverse = { λ text. record { text = text } };
 }
@@ -84,7 +91,8 @@ impl RoleName {
 
     /// The bytes of the name, which are ASCII.
     pub fn as_slice(&self) -> &[u8]
-        ensures { result.now ≡ self.now }
+        ensures bytes { result.now ≡ self.now }
+        ensures name { IsTrue (is_user_name self.now) }
     {
         self.text.as_slice()
     }

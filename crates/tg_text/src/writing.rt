@@ -28,10 +28,7 @@ pub fn write_hex(out: &mut Bytes, bytes: &[u8]) -> Result<(), Memory>
 {
     let before = out.len();
     let written = extend_hex(out, bytes);
-    if written.is_err() {
-        out.truncate(before);
-    }
-    written
+    out.keep_whole(before, written)
 }
 
 // As `write_hex`, but some of the digits stay where memory is short.
@@ -64,10 +61,7 @@ pub fn write_base64(out: &mut Bytes, bytes: &[u8]) -> Result<(), Memory>
 {
     let before = out.len();
     let written = extend_base64(out, bytes);
-    if written.is_err() {
-        out.truncate(before);
-    }
-    written
+    out.keep_whole(before, written)
 }
 
 // As `write_base64`, but some of the text stays where memory is short.

@@ -1,7 +1,8 @@
-use Rattle.std.proofs.Common.{◌≡◌, ◌≤◌, Some, None, sym, ◌∙◌, subst}
-use Rattle.tg_text.specs.Spelling.{last_generation}
+use Rattle.std.proofs.Common.{◌≡◌, ◌≤◌, Some, None, sym, ap, ◌∙◌, subst}
+use Rattle.tg_text.specs.KeySpelling.{last_generation}
 use Rattle.tg_text.specs.declared.keys.Scope.{Scope}
 use Rattle.tg_text.specs.declared.keys.KeyId.{KeyId}
+use Rattle.tg_text.proofs.Lists.{same_some}
 use Rattle.tg_text.proofs.KeyTexts.{key_parts, key_of_parts, no_second_slash, same_key}
 use Rattle.tg_text.proofs.keys.KeyId.read.Goals as goal
 
@@ -27,7 +28,7 @@ returns-in_err-generation-2 c = rw c.from_residual-in_err-generation-2.ensures (
   only = λ k is e.
       let parts = key_parts k _ _ _ _ _ is c.in_ok-scope.ensures.some.0 c.in_ok-scope.ensures.some.1 c.in_ok-generation.ensures.some.0 c.in_ok-generation.ensures.some.1 e in
       let scopes : Some k.scope ≡ Some c.in_ok-scope-2.scope = sym (c.read.ensures.only k.scope is.scope parts.0) ∙ c.in_ok-scope-2.was in
-      let scope : k.scope ≡ c.in_ok-scope-2.scope = cc in
+      let scope = same_some k.scope c.in_ok-scope-2.scope scopes in
       let read : c.read_generation.result ≡ Some k.generation =
       c.read_generation.ensures.only k.generation (subst (λ (s : Scope). k.generation ≤ last_generation s) scope is.generation) parts.1 in
       let none : c.read_generation.result ≡ None = c.in_err-generation-2.was in
@@ -60,12 +61,12 @@ returns c =
       only = λ k is e.
           let parts = key_parts k _ _ _ _ _ is cut.0 cut.1 cut2.0 cut2.1 e in
           let scopes : Some k.scope ≡ Some scope = sym (c.read.ensures.only k.scope is.scope parts.0) ∙ c.in_ok-scope-2.was in
-          let same_scope : k.scope ≡ scope = cc in
+          let same_scope = same_some k.scope scope scopes in
           let generations : Some k.generation ≡ Some generation =
           sym (c.read_generation.ensures.only k.generation (subst (λ (s : Scope). k.generation ≤ last_generation s) same_scope is.generation) parts.1) ∙ c.in_ok-generation-2.was in
-          let same_generation : k.generation ≡ generation = cc in
+          let same_generation = same_some k.generation generation generations in
           let publics : Some k.public ≡ Some public = sym (c.read_hex32.ensures.only k.public is.public parts.2) ∙ c.in_ok-public.was in
-          let same_public : k.public ≡ public = cc in
+          let same_public = same_some k.public public publics in
           let same : key ≡ k = sym (same_key k key same_scope same_generation same_public) in
-          cc;
+          ap Some same;
     }
