@@ -1,7 +1,8 @@
 -- Each act has a text of its own, of one line.
 use Rattle.std.proofs.Common.{◌≡◌, ℕ, false, true≢false, List, [], ◌∷◌, codes, refl, sym, ap, ◌∙◌, arith}
 use Rattle.std.specs.List.{AllByRecursion}
-use Rattle.tg_text.specs.Spelling.{has_newline, has_space, spaced, spell_base64, spell_decimal, spell_hex, spell_scope, AreBytes, IsHash, IsPublicKey, IsScope, IsTitle}
+use Rattle.tg_text.specs.KeySpelling.{spell_scope, IsScope}
+use Rattle.tg_text.specs.Spelling.{has_newline, has_space, spaced, spell_base64, spell_decimal, spell_hex, AreBytes, IsHash, IsPublicKey, IsTitle}
 use Rattle.tg_text.specs.declared.keys.Scope.{Scope}
 use Rattle.tg_text.specs.declared.keys.Scope.TheVariants.{Team, Role, User, Device as DeviceScope}
 use Rattle.tg_text.proofs.Splits.{begins, lacks_append, one_split}
@@ -145,7 +146,7 @@ name_line x is = name_lacks 10 x refl is
 uses_line : (n : ℕ) → IsUses n → has_newline (spell_decimal n) ≡ false
 uses_line n is = decimal_lacks 10 n refl (omega (arith, is.1))
 
-kind_line : (k : InviteKind) → has_newline (spell_kind k) ≡ false
+pub kind_line : (k : InviteKind) → has_newline (spell_kind k) ≡ false
 kind_line Member = refl
 kind_line Device = refl
 

@@ -6,11 +6,9 @@ use Rattle.tg_text.proofs.Splits.{one_split}
 use Rattle.tg_text.proofs.FieldLaws.{base64_lacks, base64_once, hex_lacks, hex_once, name_lacks}
 use Rattle.acts.specs.ActText.{spell_kind}
 use Rattle.acts.specs.ProofText.{Admission, IsAdmission, proof_body}
-use Rattle.acts.specs.declared.entry.InviteKind.{InviteKind}
-use Rattle.acts.specs.declared.entry.InviteKind.TheVariants.{Member, Device}
-use Rattle.acts.proofs.ActLaws.{kind_once}
+use Rattle.acts.proofs.ActLaws.{kind_line, kind_once}
 
--- a line without its newline: a word, a space and a field
+-- A line without its newline: a word, a space and a field.
 line : List ℕ → List ℕ → List ℕ
 line word field = word ++ 32 ∷ field
 
@@ -27,7 +25,7 @@ six_lines : (a b c d e f : List ℕ) → (a ++ 10 ∷ []) ++ (b ++ 10 ∷ []) ++
 unfolding joined
 six_lines a b c d e f = simp append_assoc refl
 
--- the body is its lines, with a newline behind each
+-- The body is its lines, with a newline after each.
 body_lines : (a : Admission) → proof_body a ≡ joined (lines a)
 unfolding line lines
 body_lines a =
@@ -47,10 +45,6 @@ lines_once (x ∷ xs) (y ∷ ys) is other e =
     let cut = one_split 10 x y (joined xs) (joined ys) is.0 other.0 e in
     let rest = lines_once xs ys is.1 other.1 cut.1 in
     λ i. cut.0 i ∷ rest i
-
-kind_line : (k : InviteKind) → has_newline (spell_kind k) ≡ false
-kind_line Member = refl
-kind_line Device = refl
 
 lines_lack : (a : Admission) → IsAdmission a → AllByRecursion (λ l. has_newline l ≡ false) (lines a)
 unfolding line lines

@@ -1,7 +1,8 @@
 -- The text of an act is its word and the fields of that word.
 use Rattle.std.proofs.Common.{◌≡◌, ℕ, true≢false, List, ◌∷◌, ◌++◌, codes, Option, Some, None, refl, sym, ap, ◌∙◌, subst}
 use Rattle.tg_text.specs.Reading.{Reads}
-use Rattle.tg_text.specs.Spelling.{IsHash, IsPublicKey, IsTitle, spell_base64, spell_decimal, spell_hex, spell_scope}
+use Rattle.tg_text.specs.KeySpelling.{spell_scope}
+use Rattle.tg_text.specs.Spelling.{IsHash, IsPublicKey, IsTitle, spell_base64, spell_decimal, spell_hex}
 use Rattle.tg_text.specs.declared.keys.Scope.{Scope}
 use Rattle.tg_text.proofs.Splits.{begins}
 use Rattle.acts.specs.ActText.{spell_act, spell_kind, IsActInRange, IsInviteKey, IsName, IsRotated, IsTime, IsUses}

@@ -1,6 +1,7 @@
 -- The text of an act, and the ranges of its fields.
 use Rattle.std.specs.Prelude.{◌≡◌, ℕ, ◌≤◌, ◌<◌, ◌^◌, List, [], ◌∷◌, codes, IsTrue}
-use Rattle.tg_text.specs.Spelling.{spell_base64, spell_decimal, spell_hex, spell_scope, spaced, number_at, is_user_name, AreBytes, IsHash, IsPublicKey, IsTitle}
+use Rattle.tg_text.specs.KeySpelling.{spell_scope}
+use Rattle.tg_text.specs.Spelling.{spell_base64, spell_decimal, spell_hex, spaced, number_at, is_user_name, AreBytes, IsHash, IsPublicKey, IsTitle}
 use Rattle.tg_text.specs.declared.keys.Scope.{Scope}
 use Rattle.tg_text.specs.declared.keys.Scope.TheVariants.{Team, Role, User, Device as DeviceScope}
 use Rattle.acts.specs.declared.entry.Act.{Act}

@@ -1,7 +1,8 @@
 //! The fields of acts: those of one kind each, and those that stand beside each other.
 ghost use Rattle.std.specs.Prelude.{◌≡◌, ℕ, List, IfOk};
 ghost use Rattle.tg_text.specs.Reading.{Reads};
-ghost use Rattle.tg_text.specs.Spelling.{AreBytes, IsHash, IsPublicKey, IsTitle, number_at, spell_base64, spell_decimal, spell_hex, spell_scope};
+ghost use Rattle.tg_text.specs.KeySpelling.{spell_scope};
+ghost use Rattle.tg_text.specs.Spelling.{AreBytes, IsHash, IsPublicKey, IsTitle, number_at, spell_base64, spell_decimal, spell_hex};
 ghost use Rattle.acts.specs.ActText.{IsInviteKey, IsName, IsRotated, IsTime, IsUses, spell_kind};
 ghost use Rattle.acts.specs.Fields.{AreTwo, IsDeviceByProof, IsSealByProof, spell_device_by_proof, spell_seal_by_proof, spell_text, spell_two};
 

@@ -24,6 +24,3 @@ pub use device::device_of;
 pub use entry::{Act, Entry, InviteKind};
 pub use laws::{acts_are_spelled_once, proof_bodies_differ};
 pub use proof_text::proof_body;
-
-#[cfg(test)]
-mod tests;

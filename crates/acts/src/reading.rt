@@ -39,7 +39,7 @@ fn read_bare(word: &[u8]) -> Option<Act>
     }
 }
 
-// An act with the fields that stand behind its word.
+// An act with the fields that stand after its word.
 fn read_fields(alloc: Global, word: &[u8], fields: &[u8]) -> Result<Option<Act>, Memory>
     ensures { has_space word.now ≡ false → IfOk result (λ found. Reads IsActInRange spell_act (word.now ++ 32 ∷ fields.now) found) }
 {

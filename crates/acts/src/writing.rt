@@ -1,6 +1,7 @@
-//! Writing acts: the word, and then the fields, each behind a space.
+//! Writing acts: the word, and then the fields, each after a space.
 ghost use Rattle.std.specs.Prelude.{◌≡◌, ◌++◌, ◌∷◌, List, ℕ, codes, OnOk, OnErr};
-ghost use Rattle.tg_text.specs.Spelling.{spell_base64, spell_decimal, spell_hex, spell_scope};
+ghost use Rattle.tg_text.specs.KeySpelling.{spell_scope};
+ghost use Rattle.tg_text.specs.Spelling.{spell_base64, spell_decimal, spell_hex};
 ghost use Rattle.acts.specs.ActText.{spell_act, spell_kind};
 ghost use Rattle.acts.specs.declared.entry.Act.TheVariants.{Found, AddMember, RemoveMember, AddRole, RemoveRole, GiveRole, TakeRole, AddDevice, RemoveDevice, InviteMember, InviteDevice, Revoke, AdmitMember, AdmitDevice, Rotate};
 
@@ -18,10 +19,7 @@ impl Act {
     {
         let before = out.len();
         let written = self.extend(out);
-        if written.is_err() {
-            out.truncate(before);
-        }
-        written
+        out.keep_whole(before, written)
     }
 
     // As `write`, but some of the text stays where memory is short. So it is with all that follow.
@@ -230,7 +228,7 @@ fn write_title(out: &mut Bytes, title: &Title) -> Result<(), Memory>
     add_text(out, title.as_slice())
 }
 
-// A device: its key and its seal, each behind a space.
+// A device: its key and its seal, each after a space.
 fn add_device(out: &mut Bytes, key: &PublicKey, seal: &[u8; 32]) -> Result<(), Memory>
     ensures ok { OnOk result (out.new ≡ out.old ++ 32 ∷ (spell_base64 key.now ++ 32 ∷ spell_hex seal.now)) }
     ensures err { OnErr result ((more : List ℕ) × (out.new ≡ out.old ++ more)) }
@@ -239,7 +237,7 @@ fn add_device(out: &mut Bytes, key: &PublicKey, seal: &[u8; 32]) -> Result<(), M
     add_hex(out, seal)
 }
 
-// The limits of an invitation, behind its key.
+// The limits of an invitation, after its key.
 fn add_invitation(out: &mut Bytes, key: &PublicKey, uses: u32, expiry: u64) -> Result<(), Memory>
     ensures ok { OnOk result (out.new ≡ out.old ++ 32 ∷ (spell_base64 key.now ++ 32 ∷ (spell_decimal uses ++ 32 ∷ spell_decimal expiry))) }
     ensures err { OnErr result ((more : List ℕ) × (out.new ≡ out.old ++ more)) }
@@ -273,8 +271,8 @@ fn add_leaf(out: &mut Bytes, by: &PublicKey, proof: &Bytes) -> Result<(), Memory
     add_base64(out, proof.as_slice())
 }
 
-// A field that is its own spelling, behind a space.
-pub(crate) fn add_text(out: &mut Bytes, text: &[u8]) -> Result<(), Memory>
+// A field that is its own spelling, after a space.
+fn add_text(out: &mut Bytes, text: &[u8]) -> Result<(), Memory>
     ensures ok { OnOk result (out.new ≡ out.old ++ 32 ∷ text.now) }
     ensures err { OnErr result ((more : List ℕ) × (out.new ≡ out.old ++ more)) }
 {
@@ -282,7 +280,7 @@ pub(crate) fn add_text(out: &mut Bytes, text: &[u8]) -> Result<(), Memory>
     out.append(text)
 }
 
-pub(crate) fn add_hex(out: &mut Bytes, bytes: &[u8]) -> Result<(), Memory>
+fn add_hex(out: &mut Bytes, bytes: &[u8]) -> Result<(), Memory>
     ensures ok { OnOk result (out.new ≡ out.old ++ 32 ∷ spell_hex bytes.now) }
     ensures err { OnErr result ((more : List ℕ) × (out.new ≡ out.old ++ more)) }
 {
@@ -290,7 +288,7 @@ pub(crate) fn add_hex(out: &mut Bytes, bytes: &[u8]) -> Result<(), Memory>
     write_hex(out, bytes)
 }
 
-pub(crate) fn add_base64(out: &mut Bytes, bytes: &[u8]) -> Result<(), Memory>
+fn add_base64(out: &mut Bytes, bytes: &[u8]) -> Result<(), Memory>
     ensures ok { OnOk result (out.new ≡ out.old ++ 32 ∷ spell_base64 bytes.now) }
     ensures err { OnErr result ((more : List ℕ) × (out.new ≡ out.old ++ more)) }
 {
