@@ -1,26 +1,44 @@
 -- The loops over chains, one chain at a time.
 use Rattle.std.proofs.Common.{◌≡◌, ℕ, suc, ◌+◌, ◌-◌, ◌*◌, ◌^◌, ◌<◌, ◌≤◌, List, [], ◌∷◌, ◌++◌, length, take, drop, get_or, refl, arith, add-one, append_assoc, append-nil}
-use Rattle.std.proofs.lemmas.List.{drop-drop}
-use Rattle.std.proofs.Math.Seq.{drop-cons, take-length}
+use Rattle.std.proofs.lemmas.List.{drop-drop, take_all}
+use Rattle.std.proofs.Math.Seq.{drop-cons, take-length, take-suc-set}
 use Rattle.std.proofs.Math.ListN.{drop_of_length-le}
 use Rattle.std.proofs.lemmas.Slice.{take-put_mid}
 use borrow.Rule.Slice.PartMut.{put_mid}
+use lib.ListN.{set}
 use Rattle.lms_ots.specs.declared.kind.OtsKind.{OtsKind}
 use Rattle.lms_ots.specs.Kinds.{ots_row}
 use Rattle.lms_ots.specs.Digits.{coef}
 use Rattle.lms_ots.specs.Chains.{chain, secret, secrets_from}
 use Rattle.lms_ots.specs.Ots.{tops, starts, ends, pieces}
 
-pub tops_step : (kind : OtsKind) (id : List ℕ) (q : ℕ) (seed : List ℕ) (p i : ℕ) (m : List ℕ) → i < p
-    → m ++ tops kind id q i (secrets_from id q seed i (p - i))
-    ≡ (m ++ chain id q i 0 (2 ^ (ots_row kind).w - 1) (secret id q i seed)) ++ tops kind id q (i + 1) (secrets_from id q seed (i + 1) (p - (i + 1)))
-unfolding tops secrets_from
-tops_step kind id q seed p i m h = let e : p - i ≡ suc (p - (i + 1)) = omega arith in rw (e, append_assoc) refl
+pub tops_step : (kind : OtsKind) (id : List ℕ) (q i : ℕ) (xs : List (List ℕ)) (m : List ℕ) → i < length xs
+    → m ++ tops kind id q i (drop i xs)
+    ≡ (m ++ chain id q i 0 (2 ^ (ots_row kind).w - 1) (get_or xs i [])) ++ tops kind id q (i + 1) (drop (i + 1) xs)
+unfolding tops
+tops_step kind id q i xs m h =
+    let d : drop i xs ≡ get_or xs i [] ∷ drop (i + 1) xs = rw add-one (drop-cons xs i [] h) in
+    rw (d, append_assoc) refl
 
-pub tops_end : (kind : OtsKind) (id : List ℕ) (q : ℕ) (seed : List ℕ) (p i : ℕ) (m : List ℕ) → p ≤ i
-    → m ++ tops kind id q i (secrets_from id q seed i (p - i)) ≡ m
-unfolding tops secrets_from
-tops_end kind id q seed p i m h = let e : p - i ≡ 0 = omega arith in rw (e, append-nil) refl
+pub tops_end : (kind : OtsKind) (id : List ℕ) (q i : ℕ) (xs : List (List ℕ)) (m : List ℕ) → length xs ≤ i → m ++ tops kind id q i (drop i xs) ≡ m
+unfolding tops
+tops_end kind id q i xs m h = let d : drop i xs ≡ [] = drop_of_length-le xs h in rw (d, append-nil) refl
+
+-- the private elements of a leaf, filled in order
+pub secrets_step : (id : List ℕ) (q : ℕ) (seed : List ℕ) (p i : ℕ) (xs : List (List ℕ)) → i < p → i < length xs
+    → take (i + 1) (set xs i (secret id q i seed)) ++ secrets_from id q seed (i + 1) (p - (i + 1)) ≡ take i xs ++ secrets_from id q seed i (p - i)
+unfolding secrets_from
+secrets_step id q seed p i xs lt within =
+    let e : p - i ≡ suc (p - (i + 1)) = omega arith in
+    let t : take (i + 1) (set xs i (secret id q i seed)) ≡ take i xs ++ secret id q i seed ∷ [] = rw (add-one i) (take-suc-set xs i (secret id q i seed) within) in
+    rw (t, e, append_assoc) refl
+
+pub secrets_end : (id : List ℕ) (q : ℕ) (seed : List ℕ) (p i : ℕ) (xs : List (List ℕ)) → p ≤ i → length xs ≡ p
+    → take i xs ++ secrets_from id q seed i (p - i) ≡ xs
+unfolding secrets_from
+secrets_end id q seed p i xs le size =
+    let e : p - i ≡ 0 = omega arith in
+    rw (e, append-nil) (take_all _ xs (omega arith))
 
 pub ends_step : (kind : OtsKind) (id : List ℕ) (q : ℕ) (digits ys : List ℕ) (p i : ℕ) (m : List ℕ) → i < p
     → m ++ ends kind id q digits i (pieces (p - i) (drop (32 * i) ys))

@@ -1,8 +1,10 @@
-ghost use Rattle.std.specs.Prelude.{◌≡◌, ◌-◌, ◌≤◌, ◌++◌, [], ◌∷◌};
+ghost use Rattle.std.specs.Prelude.{◌≡◌, ◌-◌, ◌≤◌, ◌++◌, [], ◌∷◌, length};
 ghost use Rattle.sha2.specs.Sha256.{sha256};
+ghost use Rattle.lms_ots.specs.Kinds.{ots_row};
 ghost use Rattle.lms_ots.specs.Digits.{u32str, u16str};
-ghost use Rattle.lms_ots.specs.Chains.{chain, secret, randomizer};
+ghost use Rattle.lms_ots.specs.Chains.{chain, secret, ots_secrets, randomizer};
 
+use crate::kind::OtsKind;
 use sha2::{Digest, Sha256};
 
 /// The number that stands for the randomizer where those of private elements stand.
@@ -30,6 +32,16 @@ pub fn ots_secret(id: &[u8; 16], q: u32, i: u16, seed: &[u8; 32]) -> [u8; 32]
     ensures { result ≡ secret id.now q i seed.now }
 {
     hash_step(&front_of(id, q, i), SECRET, seed)
+}
+
+/// Writes the private elements of a leaf of a seed, x_q[0] to x_q[p - 1].
+pub fn fill_secrets(kind: OtsKind, id: &[u8; 16], q: u32, seed: &[u8; 32], secrets: &mut [[u8; 32]])
+    requires { length secrets.old ≡ (ots_row kind).p }
+    ensures { secrets.new ≡ ots_secrets kind id.now q seed.now }
+{
+    for (i, secret) in secrets.iter_mut().enumerate() {
+        *secret = ots_secret(id, q, i as u16, seed);
+    }
 }
 
 /// The randomizer C of a leaf, a function of the seed, so that signing twice gives the same bytes. It is this repository's own:

@@ -4,13 +4,11 @@
 //! letters of the standard. `lms_tree` stands on it; so does whoever wants one-time signatures alone:
 //!
 //! ```rust
-//! use lms_ots::{OtsKind, ots_candidate, ots_public, ots_random, ots_secret, ots_sign};
+//! use lms_ots::{OtsKind, fill_secrets, ots_candidate, ots_public, ots_random, ots_sign};
 //!
 //! let (kind, id, seed) = (OtsKind::W8, [1; 16], [2; 32]);
 //! let mut secrets = [[0; 32]; 34];
-//! for i in 0..34u16 {
-//!     secrets[i as usize] = ots_secret(&id, 0, i, &seed);
-//! }
+//! fill_secrets(kind, &id, 0, &seed, &mut secrets);
 //! let mut signature = [0; 1124];
 //! ots_sign(kind, &id, 0, &secrets, &ots_random(&id, 0, &seed), b"hello", &mut signature);
 //! let key = ots_candidate(kind, &id, 0, b"hello", &signature);
@@ -23,11 +21,9 @@ mod digits;
 mod kind;
 mod rows;
 mod signatures;
-#[cfg(test)]
-mod tests;
 
-pub use chains::{chain, front_of, ots_random, ots_secret};
+pub use chains::{chain, fill_secrets, front_of, ots_random, ots_secret};
 pub use digits::{checksum, coef};
 pub use kind::OtsKind;
 pub use rows::worked_values;
-pub use signatures::{array_at, number_at, ots_candidate, ots_public, ots_sign};
+pub use signatures::{array_at, number_at, ots_candidate, ots_public, ots_sign, public_of_secrets};

@@ -4,7 +4,7 @@ ghost use Rattle.lms_ots.specs.Kinds.{ots_row, ots_length};
 ghost use Rattle.lms_ots.specs.Digits.{u32str, u16str, d_pblc, coef};
 ghost use Rattle.lms_ots.specs.Ots.{ots_key, ots_public, ots_signature, candidate, is_ots, number_at, starts, ends, pieces};
 
-use crate::chains::{chain, front_of, ots_secret};
+use crate::chains::{chain, fill_secrets, front_of};
 use crate::digits::{coef, message_digits};
 use crate::kind::OtsKind;
 use sha2::{Digest, Sha256};
@@ -15,11 +15,21 @@ const D_PBLC: u16 = 0x8080;
 pub fn ots_public(kind: OtsKind, id: &[u8; 16], q: u32, seed: &[u8; 32]) -> [u8; 32]
     ensures { result ≡ ots_public kind id.now q seed.now }
 {
+    let mut secrets = [[0; 32]; 265];
+    let secrets = &mut secrets[..kind.p()];
+    fill_secrets(kind, id, q, seed, secrets);
+    public_of_secrets(kind, id, q, secrets)
+}
+
+/// The public key K of a leaf with these private elements, for whoever holds them and no seed.
+pub fn public_of_secrets(kind: OtsKind, id: &[u8; 16], q: u32, secrets: &[[u8; 32]]) -> [u8; 32]
+    requires { length secrets.now ≡ (ots_row kind).p }
+    ensures { result ≡ ots_key kind id.now q secrets.now }
+{
     let mut hasher = Sha256::new();
     hasher.update(&front_of(id, q, D_PBLC));
-    for i in 0..kind.p() as u16 {
-        let secret = ots_secret(id, q, i, seed);
-        hasher.update(&chain(id, q, i, 0, kind.steps(), &secret));
+    for (i, secret) in secrets.iter().enumerate() {
+        hasher.update(&chain(id, q, i as u16, 0, kind.steps(), secret));
     }
     hasher.finalize()
 }
