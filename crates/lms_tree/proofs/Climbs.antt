@@ -1,6 +1,6 @@
 -- Climbing from a node along the siblings leads to the node above it.
-use Rattle.std.proofs.Common.{◌≡◌, ℕ, zero, suc, ◌+◌, ◌-◌, ◌*◌, ◌/◌, ◌%◌, ◌^◌, ◌<◌, ◌≤◌, ◌==◌, true, false, Bool, List, ◌++◌, length, take, drop, refl, sym, ap, ◌∙◌, arith, add-one, length-append}
-use Rattle.std.specs.List.{concat}
+use Rattle.std.proofs.Common.{◌≡◌, ℕ, zero, suc, ◌+◌, ◌-◌, ◌*◌, ◌/◌, ◌%◌, ◌^◌, ◌<◌, ◌≤◌, ◌==◌, true, false, Bool, List, [], ◌∷◌, ◌++◌, length, take, drop, refl, sym, ap, ◌∙◌, arith, add-one, length-append}
+use Rattle.std.specs.List.{concat, AllByRecursion}
 use Rattle.std.proofs.Math.Nat.{pow-succ', div-div-eq-div-mul}
 use Rattle.std.proofs.lemmas.Bool.{eqb-true, eqb-false}
 use Rattle.std.proofs.lemmas.List.{take_at, drop_at, drop-drop}
@@ -51,18 +51,25 @@ unfolding node
 length-node key zero r = length-sha256 _
 length-node key (suc k) r = length-sha256 _
 
-pub pieces_path : (key : TreeKey) (n k r : ℕ) → pieces n (concat (path_from key k n r)) ≡ path_from key k n r
-unfolding pieces path_from
-pieces_path key zero k r = refl
-pieces_path key (suc n) k r =
-    let first = node key k (sibling r) in
-    let rest = concat (path_from key (k + 1) n (r / 2)) in
-    let front : take 32 (first ++ rest) ≡ first = take_at first rest 32 (length-node key k (sibling r)) in
-    let back : drop 32 (first ++ rest) ≡ rest = drop_at first rest 32 (length-node key k (sibling r)) in
-    rw (front, back, pieces_path key n (k + 1) (r / 2)) refl
-
-pub length-path : (key : TreeKey) (n k r : ℕ) → length (concat (path_from key k n r)) ≡ 32 * n
+pub path_sized : (key : TreeKey) (k n r : ℕ) → AllByRecursion (λ (x : List ℕ). length x ≡ 32) (path_from key k n r)
 unfolding path_from
-length-path key zero k r = refl
-length-path key (suc n) k r =
-    rw (length-append, length-node key k (sibling r), length-path key n (k + 1) (r / 2)) (omega arith)
+path_sized key k zero r = tt
+path_sized key k (suc n) r = (length-node key k (sibling r), path_sized key (k + 1) n (r / 2))
+
+pub length-path : (key : TreeKey) (k n r : ℕ) → length (path_from key k n r) ≡ n
+unfolding path_from
+length-path key k zero r = refl
+length-path key k (suc n) r = ap suc (length-path key (k + 1) n (r / 2))
+
+-- nodes written one after the other are read again
+pub pieces_concat : (path : List (List ℕ)) → AllByRecursion (λ (x : List ℕ). length x ≡ 32) path → pieces (length path) (concat path) ≡ path
+unfolding pieces
+pieces_concat [] h = refl
+pieces_concat (node ∷ path) h =
+    let front : take 32 (node ++ concat path) ≡ node = take_at node (concat path) 32 h.0 in
+    let back : drop 32 (node ++ concat path) ≡ concat path = drop_at node (concat path) 32 h.0 in
+    rw (front, back, pieces_concat path h.1) refl
+
+pub length-nodes : (path : List (List ℕ)) → AllByRecursion (λ (x : List ℕ). length x ≡ 32) path → length (concat path) ≡ 32 * length path
+length-nodes [] h = refl
+length-nodes (node ∷ path) h = rw (length-append, h.0, length-nodes path h.1) (omega arith)

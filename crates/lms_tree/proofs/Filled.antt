@@ -5,7 +5,6 @@ use lib.ListN.{set}
 use Rattle.lms_tree.specs.declared.tree_key.TreeKey.{TreeKey}
 use Rattle.lms_tree.specs.LmsKinds.{lms_row, leaves_of}
 use Rattle.lms_tree.specs.Nodes.{node, leaf_hash, inner_hash, sibling, path_from, HoldsFrom, IsTree}
-use Rattle.lms_ots.specs.Chains.{secret, secrets_from}
 use Rattle.lms_ots.specs.Ots.{ots_public}
 use Rattle.std.proofs.Math.Seq.{take-suc-set}
 use Rattle.std.proofs.lemmas.List.{take_all, get_or_default}
@@ -60,22 +59,6 @@ node_at key nodes k r holds le at = holds k r le (level_some (lms_row key.lms).h
 pub leaf_is : (key : TreeKey) (q : ℕ) → leaf_hash key.id (leaves_of key.lms + q) (ots_public key.ots key.id q key.seed) ≡ node key 0 (leaves_of key.lms + q)
 unfolding node
 leaf_is key q = let e : leaves_of key.lms + q - leaves_of key.lms ≡ q = omega arith in rw e refl
-
--- the private elements of a leaf, filled in order
-pub secrets_step : (id : List ℕ) (q : ℕ) (seed : List ℕ) (p i : ℕ) (xs : List (List ℕ)) → i < p → i < length xs
-    → take (i + 1) (set xs i (secret id q i seed)) ++ secrets_from id q seed (i + 1) (p - (i + 1)) ≡ take i xs ++ secrets_from id q seed i (p - i)
-unfolding secrets_from
-secrets_step id q seed p i xs lt within =
-    let e : p - i ≡ suc (p - (i + 1)) = omega arith in
-    let t : take (i + 1) (set xs i (secret id q i seed)) ≡ take i xs ++ secret id q i seed ∷ [] = rw (add-one i) (take-suc-set xs i (secret id q i seed) within) in
-    rw (t, e, append_assoc) refl
-
-pub secrets_end : (id : List ℕ) (q : ℕ) (seed : List ℕ) (p i : ℕ) (xs : List (List ℕ)) → p ≤ i → length xs ≡ p
-    → take i xs ++ secrets_from id q seed i (p - i) ≡ xs
-unfolding secrets_from
-secrets_end id q seed p i xs le size =
-    let e : p - i ≡ 0 = omega arith in
-    rw (e, append-nil) (take_all _ xs (omega arith))
 
 -- the siblings of a path, filled in order
 pub path_step : (key : TreeKey) (h k r : ℕ) (xs : List (List ℕ)) → k < h → k < length xs

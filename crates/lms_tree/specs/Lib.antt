@@ -4,3 +4,4 @@ pub mod Signatures
 pub mod Verifying
 pub mod Making
 pub mod Rows
+pub mod Laws

@@ -5,8 +5,8 @@ use Rattle.lms_tree.specs.declared.tree_key.TreeKey.{TreeKey}
 use Rattle.lms_tree.specs.LmsKinds.{lms_kind}
 
 -- the numbers are those of an LMS type and an LM-OTS type
-abbrev pub AreKinds : ℕ → ℕ → Type 0
-AreKinds lms ots = (5 ≤ lms) × (lms ≤ 9) × (1 ≤ ots) × (ots ≤ 4)
+abbrev pub AreTypes : ℕ → ℕ → Type 0
+AreTypes lms ots = (5 ≤ lms) × (lms ≤ 9) × (1 ≤ ots) × (ots ≤ 4)
 
 -- what a tree of these numbers, this id and this seed is made from
 pub record IsMadeFrom (lms ots : ℕ) (id seed : List ℕ) (key : TreeKey) : Type 0 where

@@ -5,6 +5,7 @@ use Rattle.lms_ots.specs.Kinds.{ots_row}
 use Rattle.lms_ots.specs.Digits.{u32str}
 use Rattle.lms_ots.specs.Chains.{ots_secrets, randomizer}
 use Rattle.lms_ots.specs.Ots.{ots_signature}
+use Rattle.lms_tree.specs.declared.lms_kind.LmsKind.{LmsKind}
 use Rattle.lms_tree.specs.declared.tree_key.TreeKey.{TreeKey}
 use Rattle.lms_tree.specs.LmsKinds.{lms_row}
 use Rattle.lms_tree.specs.Nodes.{root, path_of}
@@ -18,7 +19,10 @@ unfoldable pub leaf_signature : TreeKey → ℕ → List ℕ → List ℕ
 leaf_signature key q message =
     ots_signature key.ots key.id q (ots_secrets key.ots key.id q key.seed) (randomizer key.id q key.seed) message
 
--- the signature of a message by the leaf q (section 5.4)
+-- a signature put together of its parts: the leaf q, a one-time signature, the type number and a path (section 5.4)
+abbrev pub joined : LmsKind → ℕ → List ℕ → List (List ℕ) → List ℕ
+joined lms q one_time path = u32str q ++ one_time ++ u32str (lms_row lms).number ++ concat path
+
+-- the signature of a message by the leaf q
 unfoldable pub signature_of : TreeKey → ℕ → List ℕ → List ℕ
-signature_of key q message =
-    u32str q ++ leaf_signature key q message ++ u32str (lms_row key.lms).number ++ concat (path_of key q)
+signature_of key q message = joined key.lms q (leaf_signature key q message) (path_of key q)

@@ -19,12 +19,16 @@ climb id r node [] = node
 climb id r node (other ∷ path) =
     climb id (r / 2) (parent id r node other) path
 
+-- the root over the leaf q with this one-time key, with the other nodes from the leaf up
+abbrev pub root_over : LmsKind → List ℕ → ℕ → List ℕ → List (List ℕ) → List ℕ
+root_over lms id q key path = climb id (leaves_of lms + q) (leaf_hash id (leaves_of lms + q) key) path
+
 -- the root to which a signature of these types leads, of a message under a key's id
 unfoldable pub root_of : LmsKind → OtsKind → List ℕ → List ℕ → List ℕ → List ℕ
 root_of lms ots id message signature =
     let q = number_at 0 signature in
     let key = candidate ots id q message (take (ots_length ots) (drop 4 signature)) in
-    climb id (leaves_of lms + q) (leaf_hash id (leaves_of lms + q) key) (pieces (lms_row lms).h (drop (8 + ots_length ots) signature))
+    root_over lms id q key (pieces (lms_row lms).h (drop (8 + ots_length ots) signature))
 
 -- whether a signature has the length of these types, bears them both, and has a leaf of the tree
 unfoldable pub is_signature : LmsKind → OtsKind → List ℕ → Bool
@@ -41,10 +45,17 @@ pub record IsSignature (lms : LmsKind) (ots : OtsKind) (signature : List ℕ) : 
   pub ots_is : number_at 4 signature ≡ (ots_row ots).number
   pub lms_is : number_at (4 + ots_length ots) signature ≡ (lms_row lms).number
 
+-- I and T[1] of a public key (section 5.3)
+abbrev pub id_in : List ℕ → List ℕ
+id_in key = take 16 (drop 8 key)
+
+abbrev pub root_in : List ℕ → List ℕ
+root_in key = drop 24 key
+
 -- whether a signature of these types leads to the key's root
 unfoldable pub leads_to : LmsKind → OtsKind → List ℕ → List ℕ → List ℕ → Bool
 leads_to lms ots key message signature =
-    is_signature lms ots signature && bytes_eq (drop 24 key) (root_of lms ots (take 16 (drop 8 key)) message signature)
+    is_signature lms ots signature && bytes_eq (root_in key) (root_of lms ots (id_in key) message signature)
 
 -- whether the signature verifies over the message under a key of one level
 unfoldable pub verifies_one : List ℕ → List ℕ → List ℕ → Bool

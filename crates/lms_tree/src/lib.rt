@@ -13,18 +13,18 @@
 #![tactic(auto)]
 
 mod fault;
+mod laws;
 mod lms_kind;
 mod nodes;
 mod rows;
-#[cfg(test)]
-mod tests;
 mod tree;
 mod tree_key;
 mod verifying;
 
 pub use fault::TreeFault;
+pub use laws::{joined_verifies, key_has_its_parts, path_leads_to_the_root};
 pub use lms_kind::LmsKind;
 pub use rows::worked_values;
 pub use tree::Tree;
 pub use tree_key::TreeKey;
-pub use verifying::verify;
+pub use verifying::{root_over, verify};

@@ -2,9 +2,8 @@ ghost use Rattle.std.specs.Prelude.{◌≡◌, ◌+◌, ◌-◌, ◌*◌, ◌<�
 ghost use Rattle.std.specs.List.{concat};
 ghost use Rattle.lms_ots.specs.Kinds.{ots_row, ots_length};
 ghost use Rattle.lms_ots.specs.Digits.{u32str};
-ghost use Rattle.lms_ots.specs.Chains.{ots_secrets};
 ghost use Rattle.lms_tree.specs.LmsKinds.{lms_row, lms_length, leaves_of};
-ghost use Rattle.lms_tree.specs.Making.{AreKinds, IsMadeFrom};
+ghost use Rattle.lms_tree.specs.Making.{AreTypes, IsMadeFrom};
 ghost use Rattle.lms_tree.specs.Nodes.{path_of};
 ghost use Rattle.lms_tree.specs.Signatures.{public_key, leaf_signature, signature_of};
 ghost use Rattle.lms_tree.specs.Verifying.{verifies};
@@ -13,7 +12,7 @@ use crate::fault::TreeFault;
 use crate::lms_kind::LmsKind;
 use crate::nodes::{make_nodes, sibling};
 use crate::tree_key::TreeKey;
-use lms_ots::{OtsKind, ots_random, ots_secret, ots_sign};
+use lms_ots::{OtsKind, fill_secrets, ots_random, ots_sign};
 use std::alloc::Global;
 use std::marker::Model;
 use tg_text::{Bytes, Memory, PublicKey};
@@ -45,8 +44,8 @@ impl Tree {
         id: &[u8; 16],
         seed: &[u8; 32],
     ) -> Result<Tree, TreeFault>
-        ensures kind { (result ≡ Err TreeFault.Kind) ↔ (AreKinds lms ots → ⊥) }
-        ensures height { (result ≡ Err TreeFault.Height) ↔ (AreKinds lms ots × (8 ≤ lms)) }
+        ensures kind { (result ≡ Err TreeFault.Kind) ↔ (AreTypes lms ots → ⊥) }
+        ensures height { (result ≡ Err TreeFault.Height) ↔ (AreTypes lms ots × (8 ≤ lms)) }
         ensures made { IfOk result (λ tree. IsMadeFrom lms ots id.now seed.now tree) }
     {
         let Some(lms) = LmsKind::of(lms) else {
@@ -171,16 +170,7 @@ fn sign_leaf(key: &TreeKey, q: u32, message: &[u8], out: &mut [u8])
 {
     let mut secrets = [[0; 32]; 265];
     let secrets = &mut secrets[..key.ots.p()];
-    fill_secrets(key, q, secrets);
+    fill_secrets(key.ots, &key.id, q, &key.seed, secrets);
     let random = ots_random(&key.id, q, &key.seed);
     ots_sign(key.ots, &key.id, q, secrets, &random, message, out);
-}
-
-fn fill_secrets(key: &TreeKey, q: u32, secrets: &mut [[u8; 32]])
-    requires { length secrets.old ≡ (ots_row key.now.ots).p }
-    ensures { secrets.new ≡ ots_secrets key.now.ots key.now.id q key.now.seed }
-{
-    for (i, secret) in secrets.iter_mut().enumerate() {
-        *secret = ots_secret(&key.id, q, i as u16, &key.seed);
-    }
 }

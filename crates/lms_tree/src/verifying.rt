@@ -1,7 +1,7 @@
 ghost use Rattle.std.specs.Prelude.{◌≡◌, ◌+◌, ◌-◌, ◌*◌, ◌<◌, ◌≤◌, length, IsTrue};
 ghost use Rattle.lms_ots.specs.Ots.{pieces};
 ghost use Rattle.lms_tree.specs.LmsKinds.{lms_row, leaves_of};
-ghost use Rattle.lms_tree.specs.Verifying.{parent, climb, root_of, is_signature, IsSignature, leads_to, verifies};
+ghost use Rattle.lms_tree.specs.Verifying.{parent, climb, root_over, root_of, is_signature, IsSignature, leads_to, verifies};
 
 use crate::lms_kind::LmsKind;
 use crate::nodes::{inner_hash, leaf_hash};
@@ -59,6 +59,21 @@ fn root_of(lms: LmsKind, ots: OtsKind, id: &[u8; 16], message: &[u8], signature:
         leaf,
         &leaf_hash(id, leaf, &key),
         signature.split_at(end + 4).1,
+    )
+}
+
+/// The root to which a leaf leads, by its one-time key and the other nodes from the leaf up.
+pub fn root_over(lms: LmsKind, id: &[u8; 16], q: u32, key: &[u8; 32], path: &[[u8; 32]]) -> [u8; 32]
+    requires { q < leaves_of lms }
+    ensures { result ≡ root_over lms id.now q key.now path.now }
+{
+    let leaf = lms.leaves() + q;
+    climb(
+        path.len(),
+        id,
+        leaf,
+        &leaf_hash(id, leaf, key),
+        path.as_flattened(),
     )
 }
 
