@@ -4,12 +4,16 @@ pub mod Arrivals
 pub mod Closures
 pub mod ConnectedLaw
 pub mod Connects
+pub mod Decisions
 pub mod Distinct
+pub mod Heights
 pub mod Inserts
 pub mod OrderLeast
 pub mod OrderSame
 pub mod Parts
 pub mod Pasts
+pub mod SameOrder
+pub mod SameRanks
 pub mod SameSet
 pub mod Sorted
 pub mod Standing

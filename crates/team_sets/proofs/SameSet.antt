@@ -34,10 +34,10 @@ module _ {A : Type 0} where
   filter_among p q xs ys alike to x k = let r = of_filter p x xs k in in_filter q x ys (to x r.0) (sym (alike x) ∙ r.1)
 
   -- one more than the greatest value of f in the list, and at least h
-  unfoldable most : (A → ℕ) → ℕ → List A → ℕ
+  unfoldable pub most : (A → ℕ) → ℕ → List A → ℕ
   most f h xs = fold (λ h x. max h (f x + 1)) h xs
 
-  most_within : (f : A → ℕ) (b h : ℕ) (xs : List A) → h ≤ b → ((x : A) → IsIn x xs → f x + 1 ≤ b) → most f h xs ≤ b
+  pub most_within : (f : A → ℕ) (b h : ℕ) (xs : List A) → h ≤ b → ((x : A) → IsIn x xs → f x + 1 ≤ b) → most f h xs ≤ b
   unfolding most
   most_within f b h [] k all = k
   most_within f b h (x ∷ xs) k all = let here : f x + 1 ≤ b = all x (inl refl) in most_within f b (max h (f x + 1)) xs (omega arith) (λ y j. all y (inr j))
@@ -47,7 +47,7 @@ module _ {A : Type 0} where
   most_from f h [] = omega arith
   most_from f h (x ∷ xs) = let more : max h (f x + 1) ≤ most f (max h (f x + 1)) xs = most_from f (max h (f x + 1)) xs in omega arith
 
-  most_over : (f : A → ℕ) (h : ℕ) (xs : List A) (x : A) → IsIn x xs → f x + 1 ≤ most f h xs
+  pub most_over : (f : A → ℕ) (h : ℕ) (xs : List A) (x : A) → IsIn x xs → f x + 1 ≤ most f h xs
   unfolding most
   most_over f h [] x k = absurd k
   most_over f h (y ∷ ys) x (inl e) =

@@ -21,7 +21,7 @@ module _ {A : Type 0} where
   all_of P (x ∷ xs) h = (h x (inl refl), all_of P xs (λ y k. h y (inr k)))
 
 module _ {A : Type 0} (before : A → A → Bool) where
-  put_to : (x z : A) (ys : List A) → IsIn z (put_in before x ys) → IsIn z (x ∷ ys)
+  pub put_to : (x z : A) (ys : List A) → IsIn z (put_in before x ys) → IsIn z (x ∷ ys)
   put_to x z [] k = k
   put_to x z (y ∷ ys) k = go (before x y) k (put_to x z ys)
     where

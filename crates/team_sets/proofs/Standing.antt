@@ -1,10 +1,12 @@
 -- Settlement in one pass.
-use Rattle.std.proofs.Common.{◌≡◌, ℕ, zero, suc, ◌+◌, Bool, true, false, not, ◌||◌, cond, List, [], ◌∷◌, ◌++◌, filter, fold, refl, sym, ◌∙◌, ap, append_assoc, append-nil, zero-add, length, ◌≤◌, arith, subst}
+use Rattle.std.proofs.Common.{◌≡◌, ℕ, zero, suc, ◌+◌, Bool, true, false, not, ◌||◌, cond, List, [], ◌∷◌, ◌++◌, filter, fold, refl, sym, ◌∙◌, ap, append_assoc, append-nil, zero-add, length, ◌≤◌, arith, subst, inl, inr, ◌⊎◌}
 use Rattle.std.specs.List.{list_any}
 use Rattle.std.proofs.lemmas.Bool.{false≢true}
 use Rattle.team_sets.specs.Names.{ascending, put_in}
 use Rattle.team_sets.specs.Settlement.{conflicts, settle, standing, stand_next}
 use Rattle.team_sets.specs.SettlementLaws.{NoStrikeAcross}
+use Rattle.team_sets.specs.Members.{IsIn}
+use Rattle.team_sets.proofs.Pasts.{in_more}
 
 module _ {A : Type 0} (senior strikes : A → A → Bool) where
   free : List A → A → Bool
@@ -103,33 +105,50 @@ module _ {A : Type 0} (senior strikes : A → A → Bool) where
       go true h = ap (λ l. y ∷ l) h
       go false h = h
 
-  -- an act of the part is met by the whole exactly where it is met by the part
-  met_by_part : (part : A → Bool) → NoStrikeAcross senior strikes part → (x : A) → part x ≡ true → (stood : List A)
-      → list_any (λ s. conflicts senior strikes s x) (filter part stood) ≡ list_any (λ s. conflicts senior strikes s x) stood
-  met_by_part part across x is [] = refl
-  met_by_part part across x is (y ∷ ys) = go (part y) refl (met_by_part part across x is ys)
-    where
-      go : (c : Bool) → part y ≡ c → list_any (λ s. conflicts senior strikes s x) (filter part ys) ≡ list_any (λ s. conflicts senior strikes s x) ys
-          → list_any (λ s. conflicts senior strikes s x) (cond c (y ∷ filter part ys) (filter part ys)) ≡ (conflicts senior strikes y x || list_any (λ s. conflicts senior strikes s x) ys)
-      go true e h = ap (λ b. conflicts senior strikes y x || b) h
-      go false e h = rw (across y x (λ q. false≢true (sym e ∙ q ∙ is))) h
+  -- a part of a list, in which no act of the part has a strike with the others
+  module _ (part : A → Bool) (acts : List A) (across : NoStrikeAcross senior strikes part acts) where
+    -- an act of the part is met by the whole exactly where it is met by the part
+    met_by_part : (x : A) → IsIn x acts → part x ≡ true → (stood : List A) → ((y : A) → IsIn y stood → IsIn y acts)
+        → list_any (λ s. conflicts senior strikes s x) (filter part stood) ≡ list_any (λ s. conflicts senior strikes s x) stood
+    met_by_part x here is [] of = refl
+    met_by_part x here is (y ∷ ys) of = go (part y) refl (met_by_part x here is ys (λ z k. of z (inr k)))
+      where
+        go : (c : Bool) → part y ≡ c → list_any (λ s. conflicts senior strikes s x) (filter part ys) ≡ list_any (λ s. conflicts senior strikes s x) ys
+            → list_any (λ s. conflicts senior strikes s x) (cond c (y ∷ filter part ys) (filter part ys)) ≡ (conflicts senior strikes y x || list_any (λ s. conflicts senior strikes s x) ys)
+        go true e h = ap (λ b. conflicts senior strikes y x || b) h
+        go false e h = rw (across y x (of y (inl refl)) here (λ q. false≢true (sym e ∙ q ∙ is))) h
+
+    of_more : (x : A) → IsIn x acts → (stood : List A) → ((y : A) → IsIn y stood → IsIn y acts) → (y : A) → IsIn y (stood ++ x ∷ []) → IsIn y acts
+    of_more x here stood of y k = go (in_more stood x y k)
+      where
+        go : IsIn y stood ⊎ (x ≡ y) → IsIn y acts
+        go (inl j) = of y j
+        go (inr e) = subst (λ z. IsIn z acts) e here
+
+    pub pass_part : (xs stood : List A) → ((y : A) → IsIn y xs → IsIn y acts) → ((y : A) → IsIn y stood → IsIn y acts)
+        → filter part (fold (stand_next senior strikes) stood xs) ≡ fold (stand_next senior strikes) (filter part stood) (filter part xs)
+    pass_part [] stood in_acts of = refl
+    pass_part (x ∷ xs) stood in_acts of =
+        go (part x) refl (list_any (λ s. conflicts senior strikes s x) stood) refl (pass_part xs stood (λ y k. in_acts y (inr k)) of)
+        (pass_part xs (stood ++ x ∷ []) (λ y k. in_acts y (inr k)) (of_more x here stood of))
+      where
+        here : IsIn x acts
+        here = in_acts x (inl refl)
+
+        go : (b : Bool) → part x ≡ b → (m : Bool) → list_any (λ s. conflicts senior strikes s x) stood ≡ m
+            → filter part (fold (stand_next senior strikes) stood xs) ≡ fold (stand_next senior strikes) (filter part stood) (filter part xs)
+            → filter part (fold (stand_next senior strikes) (stood ++ x ∷ []) xs) ≡ fold (stand_next senior strikes) (filter part (stood ++ x ∷ [])) (filter part xs)
+            → filter part (fold (stand_next senior strikes) (cond m stood (stood ++ x ∷ [])) xs)
+            ≡ fold (stand_next senior strikes) (filter part stood) (cond b (x ∷ filter part xs) (filter part xs))
+        go true is true met same more =
+            same ∙ sym (ap (λ m. fold (stand_next senior strikes) (cond m (filter part stood) (filter part stood ++ x ∷ [])) (filter part xs)) (met_by_part x here is stood of ∙ met))
+        go true is false met same more =
+            (subst (λ l. filter part (fold (stand_next senior strikes) (stood ++ x ∷ []) xs) ≡ fold (stand_next senior strikes) l (filter part xs)) (filter_end part stood x true is) more)
+            ∙ sym (ap (λ m. fold (stand_next senior strikes) (cond m (filter part stood) (filter part stood ++ x ∷ [])) (filter part xs)) (met_by_part x here is stood of ∙ met))
+        go false is true met same more = same
+        go false is false met same more = subst (λ l. filter part (fold (stand_next senior strikes) (stood ++ x ∷ []) xs) ≡ fold (stand_next senior strikes) l (filter part xs)) (filter_end part stood x false is ∙ append-nil (filter part stood)) more
 
   -- what stands of a part that has no strike with the others is what stands of it in the whole
-  pub pass-part : (part : A → Bool) → NoStrikeAcross senior strikes part → (xs stood : List A)
-      → filter part (fold (stand_next senior strikes) stood xs) ≡ fold (stand_next senior strikes) (filter part stood) (filter part xs)
-  pass-part part across [] stood = refl
-  pass-part part across (x ∷ xs) stood =
-      go (part x) refl (list_any (λ s. conflicts senior strikes s x) stood) refl (pass-part part across xs stood) (pass-part part across xs (stood ++ x ∷ []))
-    where
-      go : (b : Bool) → part x ≡ b → (m : Bool) → list_any (λ s. conflicts senior strikes s x) stood ≡ m
-          → filter part (fold (stand_next senior strikes) stood xs) ≡ fold (stand_next senior strikes) (filter part stood) (filter part xs)
-          → filter part (fold (stand_next senior strikes) (stood ++ x ∷ []) xs) ≡ fold (stand_next senior strikes) (filter part (stood ++ x ∷ [])) (filter part xs)
-          → filter part (fold (stand_next senior strikes) (cond m stood (stood ++ x ∷ [])) xs)
-          ≡ fold (stand_next senior strikes) (filter part stood) (cond b (x ∷ filter part xs) (filter part xs))
-      go true is true met same more =
-          same ∙ sym (ap (λ m. fold (stand_next senior strikes) (cond m (filter part stood) (filter part stood ++ x ∷ [])) (filter part xs)) (met_by_part part across x is stood ∙ met))
-      go true is false met same more =
-          (subst (λ l. filter part (fold (stand_next senior strikes) (stood ++ x ∷ []) xs) ≡ fold (stand_next senior strikes) l (filter part xs)) (filter_end part stood x true is) more)
-          ∙ sym (ap (λ m. fold (stand_next senior strikes) (cond m (filter part stood) (filter part stood ++ x ∷ [])) (filter part xs)) (met_by_part part across x is stood ∙ met))
-      go false is true met same more = same
-      go false is false met same more = subst (λ l. filter part (fold (stand_next senior strikes) (stood ++ x ∷ []) xs) ≡ fold (stand_next senior strikes) l (filter part xs)) (filter_end part stood x false is ∙ append-nil (filter part stood)) more
+  pub pass-part : (part : A → Bool) (ranked : List A) → NoStrikeAcross senior strikes part ranked
+      → filter part (fold (stand_next senior strikes) [] ranked) ≡ fold (stand_next senior strikes) [] (filter part ranked)
+  pass-part part ranked across = pass_part part ranked across ranked [] (λ y k. k) (λ y k. absurd k)

@@ -1,10 +1,10 @@
--- Ancestry without the bound on its steps, and the past of a link as a set of its own.
-use Rattle.std.specs.Prelude.{◌≡◌, ◌||◌, true, List, filter}
+-- Ancestry and height without the bound on their steps, and the past of a link as a set of its own.
+use Rattle.std.specs.Prelude.{◌≡◌, ◌||◌, ◌+◌, max, true, List, [], filter, fold}
 use Rattle.std.specs.List.{list_any}
 use Rattle.team_sets.specs.Names.{Name, has_name}
 use Rattle.team_sets.specs.Members.{IsIn}
 use Rattle.team_sets.specs.Order.{order}
-use Rattle.team_sets.specs.Ancestry.{named, is_before, past}
+use Rattle.team_sets.specs.Ancestry.{named, is_before, past, height}
 use Rattle.team_sets.specs.OrderLaws.{NamesDiffer}
 
 module _ {A : Type 0} (name : A → Name) (prev : A → List Name) where
@@ -27,3 +27,11 @@ module _ {A : Type 0} (name : A → Name) (prev : A → List Name) where
   abbrev pub PastOfPast : Type 0
   PastOfPast = (links : List A) → NamesDiffer name links → (x y : A) → IsIn x (order name prev links) → IsIn y (order name prev (past name prev links x))
       → past name prev (past name prev links x) y ≡ past name prev links y
+
+  -- a link without parents has height 0, and any other connected link one more than the greatest height of a parent
+  pub record HasHeight (links : List A) (x : A) : Type 0 where
+    pub root : prev x ≡ [] → height name prev links x ≡ 0
+    pub parents : height name prev links x ≡ fold (λ h p. max h (height name prev links p + 1)) 0 (named name prev links (prev x))
+
+  abbrev pub HeightIsOfParents : Type 0
+  HeightIsOfParents = (links : List A) → NamesDiffer name links → (x : A) → IsIn x (order name prev links) → HasHeight links x

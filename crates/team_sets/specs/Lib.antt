@@ -18,3 +18,4 @@ pub mod SameLaws
 pub mod Settlement
 pub mod SettlementLaws
 pub mod SortedLaws
+pub mod WaitingLaws

@@ -1,5 +1,5 @@
 ghost use Rattle.std.specs.Prelude.{◌≡◌, ◌↔◌, Bool, List, ℕ, true};
-ghost use Rattle.team_sets.specs.AncestryLaws.{AncestorsAreParentsAndTheirs, AncestryIsTransitive, OrderOfPast, PastOfPast};
+ghost use Rattle.team_sets.specs.AncestryLaws.{AncestorsAreParentsAndTheirs, AncestryIsTransitive, HeightIsOfParents, OrderOfPast, PastOfPast};
 ghost use Rattle.team_sets.specs.ArrivalLaws.{AllConnected, ArrivedExtends, ArrivedIsOrdered, ConnectsNext, LeastIsByName, NextAfter, StaysConnected};
 ghost use Rattle.team_sets.specs.Closure.{closure, has, Reaches};
 ghost use Rattle.team_sets.specs.Connected.{OrderIsConnected};
@@ -9,8 +9,9 @@ ghost use Rattle.team_sets.specs.OrderLaws.{IsSet, NamesDiffer, OrderIsChosen, O
 ghost use Rattle.team_sets.specs.PartLaws.{OrderOfPart};
 ghost use Rattle.team_sets.specs.PastLaws.{PastIsShorter, PastStays};
 ghost use Rattle.team_sets.specs.SameLaws.{GraphIsOfSet};
-ghost use Rattle.team_sets.specs.SettlementLaws.{PartStandsAlone, StandingIsOnePass};
+ghost use Rattle.team_sets.specs.SettlementLaws.{PartStandsAlone, SettlementIsOfRanks, StandingIsOnePass, StandsAsDecided};
 ghost use Rattle.team_sets.specs.SortedLaws.{AscendingIsOfSet, AscendingIsOne, AscendingSorts, NamesSort};
+ghost use Rattle.team_sets.specs.WaitingLaws.{ConnectedIsOfOrder, WaitingChangesNothing};
 
 /// Where no name stands twice, links with one name are one link.
 pub fn distinct_names<T>()
@@ -113,6 +114,21 @@ pub fn past_of_past<T>()
     ensures { (name : T → List ℕ) (prev : T → List (List ℕ)) → PastOfPast name prev }
 {}
 
+/// The height of a connected link is 0 without parents, and else one more than the greatest height of a parent.
+pub fn height_is_of_parents<T>()
+    ensures { (name : T → List ℕ) (prev : T → List (List ℕ)) → HeightIsOfParents name prev }
+{}
+
+/// What a set says of its connected links depends on its order alone.
+pub fn connected_is_of_order<T>()
+    ensures { (name : T → List ℕ) (prev : T → List (List ℕ)) → ConnectedIsOfOrder name prev }
+{}
+
+/// Links that wait have no effect on those that are connected.
+pub fn waiting_changes_nothing<T>()
+    ensures { (name : T → List ℕ) (prev : T → List (List ℕ)) → WaitingChangesNothing name prev }
+{}
+
 /// The number of links, their ancestors, pasts and heights depend on which links are in the set alone.
 pub fn graph_is_of_set<T>()
     ensures { (name : T → List ℕ) (prev : T → List (List ℕ)) → GraphIsOfSet name prev }
@@ -141,6 +157,16 @@ pub fn names_sort<T>()
 /// Settlement is one pass over the acts in order of seniority.
 pub fn standing_is_one_pass<T>()
     ensures { (senior strikes : T → T → Bool) → StandingIsOnePass senior strikes }
+{}
+
+/// No two standing acts have a strike with each other, and an act stands exactly where its decision says so.
+pub fn stands_as_decided<T>()
+    ensures { (senior strikes : T → T → Bool) (acts : List T) → StandsAsDecided senior strikes acts }
+{}
+
+/// Settlement depends on the ranks of the acts and the strikes between them alone.
+pub fn settlement_is_of_ranks<T>()
+    ensures { (senior strikes other_senior other_strikes : T → T → Bool) → SettlementIsOfRanks senior strikes other_senior other_strikes }
 {}
 
 /// Acts that have no strike with the others are settled alone.
