@@ -20,9 +20,10 @@ use Rattle.key_reach.specs.Debts.{debt_cmp, debts, device_names, device_of, is_u
 use Rattle.key_reach.specs.Keys.{Table, clean, current_keys, is_tainted, lacks, lacks_box, lacks_to}
 use Rattle.key_reach.specs.Laws.{IsOrdered}
 use Rattle.key_reach.specs.Lists.{pair_cmp}
-use Rattle.key_reach.proofs.Currents.{current-ascends, in-either, of-flat, sorted-append, sorted-flat}
+use Rattle.key_reach.proofs.Currents.{current-ascends, of-flat, sorted-append, sorted-flat}
 use Rattle.key_reach.proofs.Equal.{key-same}
 use Rattle.key_reach.proofs.Numbered.{of-map}
+use Rattle.key_reach.proofs.Members.{in-either}
 
 -- what ascends still does when each is changed by what keeps the order
 sorted-map : {A B : Type 0} (under : A → A → Ordering) (cmp : B → B → Ordering) (f : A → B) → ((x y : A) → under x y ≡ Less → cmp (f x) (f y) ≡ Less)

@@ -23,7 +23,8 @@ use Rattle.key_reach.specs.Keys.{Table, current_keys, is_live, keys_of, same_key
 use Rattle.key_reach.specs.Laws.{IsOrdered}
 use Rattle.key_reach.specs.Lists.{IsListOf}
 use Rattle.key_reach.proofs.Equal.{key-is, key-same}
-use Rattle.key_reach.proofs.Meeting.{scope-is, scope-same}
+use Rattle.key_reach.proofs.Meeting.{in-has-scope, scope-is, scope-same}
+use Rattle.key_reach.proofs.Members.{in-either, in-left, in-right}
 use Rattle.key_reach.proofs.Orders.{key-total}
 
 abbrev before : {A : Type 0} → (A → A → Ordering) → A → A → Bool
@@ -60,29 +61,8 @@ in-has-key ks k h = let f = any_of (same_key k) ks h in subst (λ y. IsIn y ks) 
 pub has-in-key : (ks : List KeyId) (k : KeyId) → IsIn k ks → has same_key ks k ≡ true
 has-in-key ks k j = any_in (same_key k) ks k j (key-same k)
 
-pub in-has-scope : (ss : List Scope) (s : Scope) → has same_scope ss s ≡ true → IsIn s ss
-in-has-scope ss s h = let f = any_of (same_scope s) ss h in subst (λ y. IsIn y ss) (sym (scope-is s f.0 f.2)) f.1
-
 pub has-in-scope : (ss : List Scope) (s : Scope) → IsIn s ss → has same_scope ss s ≡ true
 has-in-scope ss s j = any_in (same_scope s) ss s j (scope-same s)
-
-in-left : {A : Type 0} (xs ys : List A) (x : A) → IsIn x xs → IsIn x (xs ++ ys)
-in-left [] ys x k = absurd k
-in-left (z ∷ zs) ys x (inl e) = inl e
-in-left (z ∷ zs) ys x (inr k) = inr (in-left zs ys x k)
-
-in-right : {A : Type 0} (xs ys : List A) (x : A) → IsIn x ys → IsIn x (xs ++ ys)
-in-right [] ys x k = k
-in-right (z ∷ zs) ys x k = inr (in-right zs ys x k)
-
-pub in-either : {A : Type 0} (xs ys : List A) (x : A) → IsIn x (xs ++ ys) → IsIn x xs ⊎ IsIn x ys
-in-either [] ys x k = inr k
-in-either (z ∷ zs) ys x (inl e) = inl (inl e)
-in-either (z ∷ zs) ys x (inr k) = go (in-either zs ys x k)
-  where
-    go : IsIn x zs ⊎ IsIn x ys → ((z ≡ x) ⊎ IsIn x zs) ⊎ IsIn x ys
-    go (inl h) = inl (inr h)
-    go (inr h) = inr h
 
 pub in-flat : {A B : Type 0} (f : A → List B) (xs : List A) (x : A) (y : B) → IsIn x xs → IsIn y (f x) → IsIn y (flat_map f xs)
 in-flat f [] x y k j = absurd k

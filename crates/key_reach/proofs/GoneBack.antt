@@ -22,15 +22,12 @@ use Rattle.key_reach.specs.Keys.{Table, box_arrows, current_keys, is_entitled, i
 use Rattle.key_reach.specs.Laws.{IsOrdered}
 use Rattle.key_reach.specs.Lists.{IsListOf}
 use Rattle.key_reach.specs.Steps.{turned_arrows, turned_from}
-use Rattle.key_reach.proofs.Currents.{in-current, in-has-key, in-has-scope, has-in-key, has-in-scope, in-scope, of-current, of-flat, one-list}
+use Rattle.key_reach.proofs.Currents.{in-current, in-has-key, has-in-key, has-in-scope, in-scope, of-current, of-flat, one-list}
 use Rattle.key_reach.proofs.Equal.{key-decides, key-same}
-use Rattle.key_reach.proofs.Meeting.{scope-is, scope-same}
+use Rattle.key_reach.proofs.Meeting.{in-has-scope, scope-decides, scope-is, scope-same}
 use Rattle.key_reach.proofs.Numbered.{in-map, of-map}
 use Rattle.key_reach.proofs.Orders.{scope-total}
 use Rattle.key_reach.proofs.Turned.{origin, back-reaches}
-
-scope-decides : (x y : Scope) → (same_scope x y ≡ true → x ≡ y) × (x ≡ y → same_scope x y ≡ true)
-scope-decides x y = (scope-is x y, λ e. subst (λ z. same_scope x z ≡ true) e (scope-same x))
 
 -- turned one by one, or all at once
 turned-each : (t : Table) (ss : List Scope) → flat_map (turned_from t) ss ≡ turned (flat_map (λ a. map (λ b. (a, b)) (filter (t.allowed a) t.scopes)) ss)

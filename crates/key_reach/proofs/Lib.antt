@@ -5,8 +5,11 @@ pub mod Ends
 pub mod Equal
 pub mod GoneBack
 pub mod Kept
+pub mod Keyless
 pub mod Marks
 pub mod Meeting
+pub mod Members
+pub mod MetScopes
 pub mod Numbered
 pub mod Orders
 pub mod Runs

@@ -9,7 +9,7 @@ use Rattle.std.proofs.lemmas.Map.Keys.{IsDistinct-push}
 use Rattle.std.proofs.lemmas.Map.Steps.{length-le_from_distinct_below}
 use Rattle.std.proofs.Math.ListN.{set}
 use Rattle.std.specs.Cmp.{nat_eq_equiv}
-use Rattle.key_reach.specs.Numbers.{has_number, added, IsMarked}
+use Rattle.key_reach.specs.Numbers.{has_number, IsMarked}
 
 same-number : (n : ℕ) → eqb n n ≡ true
 same-number n = eq-eqb n n refl
@@ -64,28 +64,6 @@ marked-more marks ms n is lt new = record {
         go : ((eqb i n ≡ true) × (i ≡ n)) ⊎ ((eqb i n ≡ false) × (i ≢ n)) → get_or (set marks n true) i false ≡ (has_number ms i || (eqb i n || false))
         go (inl e) = rw (e.0, e.1, get_or-set_same marks n true false lt) (sym (or-true (has_number ms n)))
         go (inr e) = rw (e.0, get_or-set_other marks n i true false e.1, is.told i) (sym (or-none (has_number ms i)))
-
--- what is added is there, and is what it was or one member more
-pub added-new : (ms : List ℕ) (n : ℕ) → has_number ms n ≡ false → added ms n ≡ ms ++ n ∷ []
-added-new ms n e = rw e refl
-
-pub added-old : (ms : List ℕ) (n : ℕ) → has_number ms n ≡ true → added ms n ≡ ms
-added-old ms n e = rw e refl
-
--- one mark less
-pub unmarked-next : (marks : List Bool) (i n : ℕ) (taken : List ℕ) → n < length marks
-    → (before : Bool) → get_or marks i false ≡ (before && not (has_number taken i))
-    → get_or (set marks n false) i false ≡ (before && not (has_number (taken ++ n ∷ []) i))
-unmarked-next marks i n taken lt before was = rw (list_any-append (eqb i) taken (n ∷ [])) (go (eqb_tells i n))
-  where
-    none : (x y : Bool) → (x && not (y || true)) ≡ false
-    none true true = refl
-    none true false = refl
-    none false y = refl
-
-    go : ((eqb i n ≡ true) × (i ≡ n)) ⊎ ((eqb i n ≡ false) × (i ≢ n)) → get_or (set marks n false) i false ≡ (before && not (has_number taken i || (eqb i n || false)))
-    go (inl e) = rw (e.0, e.1, get_or-set_same marks n false false lt) (sym (none before (has_number taken n)))
-    go (inr e) = rw (e.0, get_or-set_other marks n i false false e.1, or-none (has_number taken i)) was
 
 cleared : (b : Bool) → (b && not b) ≡ false
 cleared true = refl

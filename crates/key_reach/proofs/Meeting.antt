@@ -1,5 +1,5 @@
 -- Four steps along allowed arrows meet all that a device is entitled to.
-use Rattle.std.proofs.Common.{◌≡◌, ℕ, zero, suc, ◌-◌, ◌<◌, ◌≤◌, Bool, true, false, not, ◌&&◌, ◌||◌, cond, List, [], ◌∷◌, ◌++◌, map, filter, flat_map, refl, sym, ap, subst, inl, inr, ◌⊎◌, codes, arith}
+use Rattle.std.proofs.Common.{◌≡◌, ℕ, zero, suc, ◌-◌, ◌<◌, ◌≤◌, Bool, true, false, not, ◌&&◌, ◌||◌, cond, List, [], ◌∷◌, map, filter, flat_map, refl, sym, ap, subst, inl, inr, ◌⊎◌, codes, arith}
 use Rattle.std.specs.List.{list_any}
 use Rattle.std.specs.Ordering.{is_eq, is_lt, nat_cmp, ordering_reverse}
 use Rattle.std.specs.Cmp.Lexicographic.{slice_cmp, nat_list_cmp_total}
@@ -19,6 +19,7 @@ use Rattle.tg_text.specs.declared.keys.Scope.TheVariants.{Team, Role, User, Devi
 use Rattle.key_reach.specs.Keys.{Table, same_scope, scope_arrows, is_entitled, is_live}
 use Rattle.key_reach.specs.Laws.{IsKeyTable, may_lead}
 use Rattle.key_reach.specs.Steps.{met}
+use Rattle.key_reach.proofs.Members.{in-either, in-left, in-right}
 
 pub names_same : (a b : Name) → is_eq (slice_cmp nat_cmp a b) ≡ true → a ≡ b
 names_same a b h = go (slice_cmp nat_cmp a b) refl h
@@ -60,24 +61,11 @@ scope-same (Role a) = names_equal a
 scope-same (User a) = names_equal a
 scope-same (Device a) = names_equal a
 
-in_has : (xs : List Scope) (x : Scope) → has same_scope xs x ≡ true → IsIn x xs
-in_has xs x h = let found = any_of (same_scope x) xs h in subst (λ y. IsIn y xs) (sym (scope-is x found.0 found.2)) found.1
+pub scope-decides : (x y : Scope) → (same_scope x y ≡ true → x ≡ y) × (x ≡ y → same_scope x y ≡ true)
+scope-decides x y = (scope-is x y, λ e. subst (λ z. same_scope x z ≡ true) e (scope-same x))
 
-in_append : {A : Type 0} (xs ys : List A) (x : A) → IsIn x xs ⊎ IsIn x ys → IsIn x (xs ++ ys)
-in_append [] ys x (inl k) = absurd k
-in_append [] ys x (inr k) = k
-in_append (z ∷ zs) ys x (inl (inl e)) = inl e
-in_append (z ∷ zs) ys x (inl (inr k)) = inr (in_append zs ys x (inl k))
-in_append (z ∷ zs) ys x (inr k) = inr (in_append zs ys x (inr k))
-
-of_append : {A : Type 0} (xs ys : List A) (x : A) → IsIn x (xs ++ ys) → IsIn x xs ⊎ IsIn x ys
-of_append [] ys x k = inr k
-of_append (z ∷ zs) ys x (inl e) = inl (inl e)
-of_append (z ∷ zs) ys x (inr k) = go (of_append zs ys x k)
-  where
-    go : IsIn x zs ⊎ IsIn x ys → IsIn x (z ∷ zs) ⊎ IsIn x ys
-    go (inl h) = inl (inr h)
-    go (inr h) = inr h
+pub in-has-scope : (xs : List Scope) (x : Scope) → has same_scope xs x ≡ true → IsIn x xs
+in-has-scope xs x h = let found = any_of (same_scope x) xs h in subst (λ y. IsIn y xs) (sym (scope-is x found.0 found.2)) found.1
 
 module _ (allowed : Scope → Scope → Bool) (scopes : List Scope) where
   heads : Scope → List Scope → List (Scope × Scope)
@@ -93,18 +81,18 @@ module _ (allowed : Scope → Scope → Bool) (scopes : List Scope) where
   of_heads a p (x ∷ xs) (inl e) = (ap (λ q. q.0) e, inl (ap (λ q. q.1) e))
   of_heads a p (x ∷ xs) (inr k) = let h = of_heads a p xs k in (h.0, inr h.1)
 
-  in_arrows : (a b : Scope) (from : List Scope) → IsIn a from → IsIn b scopes → allowed a b ≡ true
+  pub in_arrows : (a b : Scope) (from : List Scope) → IsIn a from → IsIn b scopes → allowed a b ≡ true
       → IsIn {A = Scope × Scope} (a, b) (flat_map (λ a. map (λ b. (a, b)) (filter (allowed a) scopes)) from)
   in_arrows a b [] k j h = absurd k
   in_arrows a b (x ∷ xs) (inl e) j h =
-      in_append (map (λ b. (x, b)) (filter (allowed x) scopes)) (flat_map (λ a. map (λ b. (a, b)) (filter (allowed a) scopes)) xs) (a, b)
-      (inl (subst (λ y. IsIn {A = Scope × Scope} (a, b) (map (λ b. (y, b)) (filter (allowed y) scopes))) (sym e) (in_heads a b (filter (allowed a) scopes) (in_filter (allowed a) b scopes j h))))
+      in-left (map (λ b. (x, b)) (filter (allowed x) scopes)) (flat_map (λ a. map (λ b. (a, b)) (filter (allowed a) scopes)) xs) (a, b)
+      (subst (λ y. IsIn {A = Scope × Scope} (a, b) (map (λ b. (y, b)) (filter (allowed y) scopes))) (sym e) (in_heads a b (filter (allowed a) scopes) (in_filter (allowed a) b scopes j h)))
   in_arrows a b (x ∷ xs) (inr k) j h =
-      in_append (map (λ b. (x, b)) (filter (allowed x) scopes)) (flat_map (λ a. map (λ b. (a, b)) (filter (allowed a) scopes)) xs) (a, b) (inr (in_arrows a b xs k j h))
+      in-right (map (λ b. (x, b)) (filter (allowed x) scopes)) (flat_map (λ a. map (λ b. (a, b)) (filter (allowed a) scopes)) xs) (a, b) (in_arrows a b xs k j h)
 
-  of_arrows : (p : Scope × Scope) (from : List Scope) → IsIn {A = Scope × Scope} p (flat_map (λ a. map (λ b. (a, b)) (filter (allowed a) scopes)) from) → (allowed p.0 p.1 ≡ true) × IsIn p.1 scopes
+  pub of_arrows : (p : Scope × Scope) (from : List Scope) → IsIn {A = Scope × Scope} p (flat_map (λ a. map (λ b. (a, b)) (filter (allowed a) scopes)) from) → (allowed p.0 p.1 ≡ true) × IsIn p.1 scopes
   of_arrows p [] k = absurd k
-  of_arrows p (x ∷ xs) k = go (of_append (map (λ b. (x, b)) (filter (allowed x) scopes)) (flat_map (λ a. map (λ b. (a, b)) (filter (allowed a) scopes)) xs) p k) (of_arrows p xs)
+  of_arrows p (x ∷ xs) k = go (in-either (map (λ b. (x, b)) (filter (allowed x) scopes)) (flat_map (λ a. map (λ b. (a, b)) (filter (allowed a) scopes)) xs) p k) (of_arrows p xs)
     where
       go : IsIn {A = Scope × Scope} p (map (λ b. (x, b)) (filter (allowed x) scopes)) ⊎ IsIn {A = Scope × Scope} p (flat_map (λ a. map (λ b. (a, b)) (filter (allowed a) scopes)) xs)
           → (IsIn {A = Scope × Scope} p (flat_map (λ a. map (λ b. (a, b)) (filter (allowed a) scopes)) xs) → (allowed p.0 p.1 ≡ true) × IsIn p.1 scopes) → (allowed p.0 p.1 ≡ true) × IsIn p.1 scopes
@@ -171,7 +159,7 @@ module _ (t : Table) (law : IsKeyTable t) where
   met_by : (n : ℕ) (x m z : Scope) → t.allowed x m ≡ true → met t n m z ≡ true → met t (suc n) x z ≡ true
   met_by n x m z h k =
       or_right (same_scope x z) (list_any (λ m. t.allowed x m && met t n m z) t.scopes)
-      (any_in (λ m. t.allowed x m && met t n m z) t.scopes m (in_has t.scopes m (law.joins_live x m h).1) (and_from (t.allowed x m) (met t n m z) h k))
+      (any_in (λ m. t.allowed x m && met t n m z) t.scopes m (in-has-scope t.scopes m (law.joins_live x m h).1) (and_from (t.allowed x m) (met t n m z) h k))
 
   met_more : (n m : ℕ) (x y : Scope) → n ≤ m → met t n x y ≡ true → met t m x y ≡ true
   met_more zero m x y le h = met_here m x y h
@@ -207,7 +195,7 @@ module _ (t : Table) (law : IsKeyTable t) where
           let found = any_of (λ k. t.allowed x k && met t n k y) t.scopes k in
           let parts = and_parts (t.allowed x found.0) (met t n found.0 y) found.2 in
           more found.0 parts.1
-          (follows x found.0 (in_arrows t.allowed t.scopes x found.0 t.scopes (in_has t.scopes x (law.joins_live x found.0 parts.0).0) found.1 parts.0) r)
+          (follows x found.0 (in_arrows t.allowed t.scopes x found.0 t.scopes (in-has-scope t.scopes x (law.joins_live x found.0 parts.0).0) found.1 parts.0) r)
 
   reached_met : (d : Name) (y : Scope) → Reaches (scope_arrows t) (filter (same_scope (Device d)) t.scopes) y → met t (rank y) (Device d) y ≡ true
   reached_met d _ (is_given x k) = met_here (rank x) (Device d) x (of_filter (same_scope (Device d)) x t.scopes k).1
@@ -222,9 +210,6 @@ module _ (t : Table) (law : IsKeyTable t) where
       let found = of_filter (same_scope (Device d)) x t.scopes k in any_in (same_scope (Device d)) t.scopes x found.0 found.1
   reached_live d _ (follows x y k r) = reached_live d x r
 
-  decides : (x y : Scope) → (same_scope x y ≡ true → x ≡ y) × (x ≡ y → same_scope x y ≡ true)
-  decides x y = (scope-is x y, λ e. subst (λ z. same_scope x z ≡ true) e (scope-same x))
-
   pub entitled-met : (d : Name) (s : Scope) → (is_live t (Device d) && met t 4 (Device d) s) ≡ is_entitled t d s
   entitled-met d s = same_answer (is_live t (Device d) && met t 4 (Device d) s) (is_entitled t d s) forth back
     where
@@ -234,12 +219,12 @@ module _ (t : Table) (law : IsKeyTable t) where
       forth : (is_live t (Device d) && met t 4 (Device d) s) ≡ true → is_entitled t d s ≡ true
       forth h =
           let parts = and_parts (is_live t (Device d)) (met t 4 (Device d) s) h in
-          let start = in_filter (same_scope (Device d)) (Device d) t.scopes (in_has t.scopes (Device d) parts.0) (scope-same (Device d)) in
-          (closure-reaches same_scope decides (scope_arrows t) given s).1 (met_reached given 4 (Device d) s parts.1 (is_given (Device d) start))
+          let start = in_filter (same_scope (Device d)) (Device d) t.scopes (in-has-scope t.scopes (Device d) parts.0) (scope-same (Device d)) in
+          (closure-reaches same_scope scope-decides (scope_arrows t) given s).1 (met_reached given 4 (Device d) s parts.1 (is_given (Device d) start))
 
       back : is_entitled t d s ≡ true → (is_live t (Device d) && met t 4 (Device d) s) ≡ true
       back h =
-          let r = (closure-reaches same_scope decides (scope_arrows t) given s).0 h in
+          let r = (closure-reaches same_scope scope-decides (scope_arrows t) given s).0 h in
           and_from (is_live t (Device d)) (met t 4 (Device d) s) (reached_live d s r) (met_more (rank s) 4 (Device d) s (rank_within s) (reached_met d s r))
 
 -- one step of the search

@@ -4,21 +4,13 @@ use Rattle.std.proofs.lemmas.Bool.{eqb-true, eq-eqb}
 use Rattle.std.proofs.lemmas.List.{take-append-le, take_all}
 use Rattle.team_sets.specs.Members.{IsIn}
 use Rattle.team_sets.specs.Closure.{Reaches, is_given, follows}
-use Rattle.team_sets.proofs.Agree.{any_in}
 use Rattle.team_sets.proofs.Pasts.{any_of, in_more}
 use Rattle.team_sets.proofs.OrderLeast.{in_filter, of_filter}
 use Rattle.key_reach.specs.Numbers.{has_number, added, AreReached}
+use Rattle.key_reach.proofs.Members.{in-left}
 
 pub has-in : (ms : List ℕ) (n : ℕ) → has_number ms n ≡ true → IsIn n ms
 has-in ms n h = let found = any_of (eqb n) ms h in subst (λ m. IsIn m ms) (sym (eqb-true n found.0 found.2)) found.1
-
-pub in-has : (ms : List ℕ) (n : ℕ) → IsIn n ms → has_number ms n ≡ true
-in-has ms n k = any_in (eqb n) ms n k (eq-eqb n n refl)
-
-in-append : {A : Type 0} (xs ys : List A) (x : A) → IsIn x xs → IsIn x (xs ++ ys)
-in-append [] ys x k = absurd k
-in-append (z ∷ zs) ys x (inl e) = inl e
-in-append (z ∷ zs) ys x (inr k) = inr (in-append zs ys x k)
 
 in-last : {A : Type 0} (xs : List A) (x : A) → IsIn x (xs ++ x ∷ [])
 in-last [] x = inl refl
@@ -30,7 +22,7 @@ kept-one ms n i k = go (has_number ms n)
   where
     go : (b : Bool) → IsIn i (cond b ms (ms ++ n ∷ []))
     go true = k
-    go false = in-append ms (n ∷ []) i k
+    go false = in-left ms (n ∷ []) i k
 
 has-one : (ms : List ℕ) (n : ℕ) → IsIn n (added ms n)
 has-one ms n = go (has_number ms n) refl

@@ -1,5 +1,7 @@
 pub mod Backwards
+pub mod DebtLaws
 pub mod Debts
+pub mod EntitledLaws
 pub mod Graphs
 pub mod Keys
 pub mod Laws

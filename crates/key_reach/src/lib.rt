@@ -27,10 +27,7 @@ mod walking;
 pub use debt::Debt;
 pub use entitling::entitled;
 pub use lacking::lacks;
-pub use laws::{reach_is_least, worked_keys};
+pub use laws::{debts_without_keys, entitled_is_least, reach_is_least, worked_keys};
 pub use owing::debts;
 pub use reaching::{reach, tainted};
 pub use table::KeyTable;
-
-#[cfg(test)]
-mod tests;

@@ -18,9 +18,11 @@ pub trait KeyTable {
     fn boxes(&self) -> &[BoxLine]
         ensures { result.now ≡ (table self.now).boxes };
 
-    /// The current key of each scope that ever had one, and the key of each device that was ever listed: one of each scope.
+    /// The current key of each scope that ever had one, and the key of each device that was ever listed: one of each scope, in
+    /// the order of scopes.
     fn currents(&self) -> &[KeyId]
         ensures currents { result.now ≡ (table self.now).currents }
+        ensures ascend { IsStrictlySortedBy scope_cmp (map (λ k. k.scope) (table self.now).currents) }
         ensures one_each { IsDistinct same_scope (map (λ k. k.scope) (table self.now).currents) };
 
     /// The live scopes, in order.
