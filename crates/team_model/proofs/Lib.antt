@@ -1,5 +1,8 @@
+pub mod Brought
 pub mod Counting
-pub mod OfSet
+pub mod Keyless
+pub mod OfOrder
 pub mod PastTeams
 pub mod Resolved
+pub mod Shown
 pub mod Teams

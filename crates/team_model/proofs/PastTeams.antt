@@ -29,5 +29,5 @@ module _ (rules : Rules) (links : List Link) (differ : NamesDiffer name_of links
       ∙ filter_comm (λ y. is_none (rules.refusal (team rules (past_of links y)) y.entry)) (λ y. is_before name_of prev_of links y.name x) (order_of links)
 
   pub team-past : (x : Link) → IsIn x (order_of links)
-      → team rules (past_of links x) ≡ fold_team rules (resolved_from (past_of links x) (filter (λ y. is_before name_of prev_of links y.name x) (lawful rules links)))
-  team-past x k = team_is_fold rules (past_of links x) (differ-past name_of prev_of links differ x) ∙ ap (λ l. fold_team rules (resolved_from (past_of links x) l)) (lawful-past x k)
+      → team rules (past_of links x) ≡ fold_team rules (resolved_from rules (past_of links x) (filter (λ y. is_before name_of prev_of links y.name x) (lawful rules links)))
+  team-past x k = team_is_fold rules (past_of links x) (differ-past name_of prev_of links differ x) ∙ ap (λ l. fold_team rules (resolved_from rules (past_of links x) l)) (lawful-past x k)

@@ -1,10 +1,9 @@
 -- None of the acts strikes, so all lawful links stay.
-use Rattle.std.proofs.Common.{◌≡◌, Bool, true, false, not, ◌&&◌, ◌||◌, cond, List, [], ◌∷◌, filter, None, find, map, refl, ◌∙◌, ap}
-use Rattle.team_sets.specs.Names.{has_name}
+use Rattle.std.proofs.Common.{◌≡◌, true, false, not, ◌&&◌, ◌||◌, cond, List, [], ◌∷◌, filter, refl, ◌∙◌, ap}
 use Rattle.team_sets.specs.Settlement.{standing}
 use Rattle.acts.specs.declared.entry.Act.{Act}
 use Rattle.team_model.specs.Strikes.{is_striking}
-use Rattle.team_model.specs.Judging.{name_of, is_senior, strikes_in, strikers, standing_strikers, stays, resolved_from, first_striker}
+use Rattle.team_model.specs.Judging.{is_senior, strikes_in, strikers, standing_strikers, stays, resolved_from, team_rules}
 use Rattle.team_model.specs.declared.terms.Link.{Link}
 
 pub not_striking : (a : Act) → is_striking a ≡ false
@@ -14,23 +13,14 @@ pub no_strikers : (links lawful : List Link) → strikers links lawful ≡ []
 no_strikers links [] = refl
 no_strikers links (x ∷ xs) = ap (λ b. cond b (x ∷ strikers links xs) (strikers links xs)) (not_striking x.entry.act) ∙ no_strikers links xs
 
-pub none_standing : (links lawful : List Link) → standing_strikers links lawful ≡ []
+pub none_standing : (links lawful : List Link) → standing_strikers team_rules links lawful ≡ []
 none_standing links lawful = ap (λ l. standing (is_senior links lawful) (strikes_in links) l) (no_strikers links lawful)
 
-all_stay : (links lawful xs : List Link) → filter (stays links lawful []) xs ≡ xs
+all_stay : (links lawful xs : List Link) → filter (stays team_rules links lawful []) xs ≡ xs
 all_stay links lawful [] = refl
 all_stay links lawful (x ∷ xs) =
-    ap (λ b. cond ((not b || false) && true) (x ∷ filter (stays links lawful []) xs) (filter (stays links lawful []) xs)) (not_striking x.entry.act)
+    ap (λ b. cond ((not b || false) && true) (x ∷ filter (stays team_rules links lawful []) xs) (filter (stays team_rules links lawful []) xs)) (not_striking x.entry.act)
     ∙ ap (λ l. x ∷ l) (all_stay links lawful xs)
 
-pub none_is_struck : (links lawful : List Link) → resolved_from links lawful ≡ lawful
-none_is_struck links lawful = ap (λ l. filter (stays links lawful l) lawful) (none_standing links lawful) ∙ all_stay links lawful lawful
-
-find_none : (p : Link → Bool) (xs : List Link) → ((x : Link) → p x ≡ false) → find p xs ≡ None
-find_none p [] h = refl
-find_none p (x ∷ xs) h = rw (h x) (find_none p xs h)
-
-pub no_striker : (links lawful : List Link) (x : Link) → first_striker links lawful x ≡ None
-no_striker links lawful x =
-    find_none (λ s. has_name (map name_of (standing_strikers links lawful)) s.name && strikes_in links s x) lawful
-    (λ s. ap (λ l. has_name (map name_of l) s.name && strikes_in links s x) (none_standing links lawful))
+pub none_is_struck : (links lawful : List Link) → resolved_from team_rules links lawful ≡ lawful
+none_is_struck links lawful = ap (λ l. filter (stays team_rules links lawful l) lawful) (none_standing links lawful) ∙ all_stay links lawful lawful

@@ -1,6 +1,8 @@
 pub mod ActTable
 pub mod Arrival
 pub mod Counting
+pub mod CountingLaws
+pub mod DebtLaws
 pub mod Examples
 pub mod Judging
 pub mod JudgingLaws

@@ -1,22 +1,22 @@
 -- What `show` prints.
-use Rattle.std.specs.Prelude.{ℕ, ◌-◌, Bool, true, false, if◌then◌else◌, List, [], ◌∷◌, ◌++◌, length, filter, codes, flat_map, is_none}
+use Rattle.std.specs.Prelude.{ℕ, ◌-◌, Bool, if◌then◌else◌, List, [], ◌∷◌, ◌++◌, length, filter, codes, flat_map}
 use Rattle.std.specs.Option.{option_map_or}
 use Rattle.team_sets.specs.Names.{Name, same_name, name_lt, ascending}
+use Rattle.tg_text.specs.KeySpelling.{spell_key_id, spell_scope}
 use Rattle.tg_text.specs.Spelling.{spell_decimal, spell_hex, line_of}
+use Rattle.key_reach.specs.declared.debt.Debt.{Debt}
+use Rattle.key_reach.specs.declared.debt.Debt.TheVariants.{NoKey, Tainted, Unreached}
+use Rattle.key_reach.specs.Debts.{debts}
+use Rattle.team_model.specs.Counting.{counting_links}
+use Rattle.team_model.specs.KeyTables.{key_table}
 use Rattle.team_model.specs.State.{State}
-use Rattle.team_model.specs.Judging.{order_of, team, team_rules, verdict}
+use Rattle.team_model.specs.Judging.{order_of, team, team_rules}
 use Rattle.team_model.specs.declared.terms.Link.{Link}
 use Rattle.team_model.specs.declared.terms.Device.{Device}
-use Rattle.team_model.specs.declared.terms.Verdict.{Verdict}
-use Rattle.team_model.specs.declared.terms.Verdict.TheVariants.{Counts}
 
-abbrev pub is_counting : Verdict → Bool
-is_counting Counts = true
-is_counting _ = false
-
--- how many links count. Waiting links don't, so the connected ones are looked through, in the order of the team
+-- how many links count
 abbrev pub count_counting : List Link → ℕ
-count_counting links = length (filter (λ x. is_counting (verdict team_rules links x)) (order_of links))
+count_counting links = length (counting_links team_rules links)
 
 -- the devices in order of their users and then of their ids
 abbrev pub device_lt : Device → Device → Bool
@@ -31,13 +31,14 @@ device_lines s = flat_map (λ d. line_of (codes "device" ∷ d.user ∷ spell_he
 abbrev pub role_lines : State → List ℕ
 role_lines s = flat_map (λ r. line_of (codes "role" ∷ r ∷ [])) s.roles
 
--- while no key line is read, each live scope but the devices is without a key
+abbrev pub debt_line : Debt → List ℕ
+debt_line (NoKey s) = line_of (codes "debt" ∷ codes "none" ∷ spell_scope s ∷ [])
+debt_line (Tainted k) = line_of (codes "debt" ∷ codes "tainted" ∷ spell_key_id k ∷ [])
+debt_line (Unreached k d) = line_of (codes "debt" ∷ codes "unreached" ∷ spell_key_id k ∷ spell_hex d ∷ [])
+
+-- what the team owes, in the order of debts
 abbrev pub debt_lines : State → List ℕ
-debt_lines s =
-    if is_none s.title then [] else
-    line_of (codes "debt" ∷ codes "none" ∷ codes "team" ∷ [])
-    ++ flat_map (λ r. line_of (codes "debt" ∷ codes "none" ∷ (codes "role:" ++ r) ∷ [])) s.roles
-    ++ flat_map (λ m. line_of (codes "debt" ∷ codes "none" ∷ (codes "user:" ++ m.user) ∷ [])) s.members
+debt_lines s = flat_map debt_line (debts (key_table s))
 
 abbrev pub state_lines : State → List ℕ
 state_lines s = member_lines s ++ device_lines s ++ role_lines s ++ debt_lines s

@@ -1,5 +1,5 @@
 -- Which acts strike, what they strike, and whom an act brings in.
-use Rattle.std.specs.Prelude.{Bool, false, Option, Some, None}
+use Rattle.std.specs.Prelude.{ℕ, Bool, false, List, Option, Some, None}
 use Rattle.std.specs.Option.{option_map_or}
 use Rattle.sha2.specs.Sha256.{sha256}
 use Rattle.team_sets.specs.Names.{Name, same_name}
@@ -18,22 +18,32 @@ brought_user e (AddMember user key seal) = Some user
 brought_user e (AdmitMember user key seal by proof) = Some user
 brought_user e _ = None
 
--- the device that an act brings in. Its id is the SHA-256 of its key
-abbrev pub brought_device : Entry → Act → Option Name
-brought_device e (Found seal title) = Some e.device
-brought_device e (AddMember user key seal) = Some (sha256 key)
-brought_device e (AddDevice key seal) = Some (sha256 key)
-brought_device e (AdmitMember user key seal by proof) = Some (sha256 key)
-brought_device e (AdmitDevice key seal by proof) = Some (sha256 key)
-brought_device e _ = None
-
 -- whether an entry brings the user in
 abbrev pub brings_user : Entry → Name → Bool
 brings_user e u = option_map_or (λ v. same_name v u) (brought_user e e.act) false
 
--- whether x strikes y, where both are lawful and concurrent
-abbrev pub strikes_by : Entry → Act → Entry → Bool
-strikes_by x a y = false
+-- the id of a device is made of its key: in a team by SHA-256, and in worked examples by whatever suits them
+module _ (device_of : List ℕ → Name) where
+  -- the device that an act brings in
+  abbrev pub brought_device_by : Entry → Act → Option Name
+  brought_device_by e (Found seal title) = Some e.device
+  brought_device_by e (AddMember user key seal) = Some (device_of key)
+  brought_device_by e (AddDevice key seal) = Some (device_of key)
+  brought_device_by e (AdmitMember user key seal by proof) = Some (device_of key)
+  brought_device_by e (AdmitDevice key seal by proof) = Some (device_of key)
+  brought_device_by e _ = None
 
+  -- whether an act of x strikes y, where both are lawful and concurrent
+  abbrev pub act_strikes : Entry → Act → Entry → Bool
+  act_strikes x a y = false
+
+  abbrev pub strikes_by : Entry → Entry → Bool
+  strikes_by x y = act_strikes x x.act y
+
+-- the device that an act brings in. Its id is the SHA-256 of its key
+abbrev pub brought_device : Entry → Act → Option Name
+brought_device e a = brought_device_by sha256 e a
+
+-- whether x strikes y, where both are lawful and concurrent
 abbrev pub strikes : Entry → Entry → Bool
-strikes x y = strikes_by x x.act y
+strikes x y = strikes_by sha256 x y

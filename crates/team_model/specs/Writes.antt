@@ -1,5 +1,5 @@
 -- What a write to the tables of a state changes.
-use Rattle.std.specs.Prelude.{ℕ, false, if◌then◌else◌, List, [], ◌∷◌, ◌++◌, Some, map}
+use Rattle.std.specs.Prelude.{ℕ, true, false, if◌then◌else◌, List, [], ◌∷◌, ◌++◌, Some, map}
 use Rattle.team_sets.specs.Names.{Name, same_name}
 use Rattle.tg_text.specs.declared.keys.KeyId.{KeyId}
 use Rattle.tg_text.specs.declared.keys.BoxLine.{BoxLine}
@@ -12,6 +12,10 @@ use Rattle.team_model.specs.State.{State, drop_row, put_name, put_row}
 -- a device's row without its listing, if it is the user's
 abbrev pub unlist_of : Name → Device → Device
 unlist_of u d = if same_name d.user u then record d { listed = false } else d
+
+-- the row of a device that is listed for a user
+abbrev pub listed_device : Name → List ℕ → Name → Device
+listed_device id seal user = record { id = id; seal = seal; user = user; listed = true }
 
 module _ (s : State) where
   abbrev pub with_title : List ℕ → State

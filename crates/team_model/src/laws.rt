@@ -1,5 +1,7 @@
+ghost use Rattle.team_model.specs.CountingLaws.{CountingAreByListed, CountingIsRight, RankIsDefined, StandersAreApart, TeamRulesBringIn};
+ghost use Rattle.team_model.specs.DebtLaws.{KeylessOweEachKey};
 ghost use Rattle.team_model.specs.Examples.{ArrivalRow, ReefRow, ShownRow, WaitingRow};
-ghost use Rattle.team_model.specs.JudgingLaws.{CountingArePermitted, NoneIsStruck, LawfulStays, TeamIsFold, TeamOfPast, TextIsOfSet};
+ghost use Rattle.team_model.specs.JudgingLaws.{CountingArePermitted, LawfulStays, MeaningIsOfOrder, MeaningIsOfSet, NoneIsStruck, TeamIsFold, TeamOfPast, TextIsOfSet, WaitingHaveNoEffect};
 
 /// The team of a set of links is the fold over its resolved list, and a link is lawful by the team of its past.
 pub fn team_is_fold()
@@ -26,9 +28,48 @@ pub fn counting_are_permitted()
     ensures { CountingArePermitted }
 {}
 
-/// Two lists of the same links, in whatever order, have one order, one team, the same verdicts and one text of show.
+/// A link counts exactly where it is connected and lawful, stands, isn't struck and is permitted at its turn; and then it is by
+/// a device that is listed for its author there, or founds the team.
+pub fn counting_is_right()
+    ensures exactly { CountingIsRight }
+    ensures listed { CountingAreByListed }
+{}
+
+/// No standing striker strikes another.
+pub fn standers_are_apart()
+    ensures { StandersAreApart }
+{}
+
+/// The user of each lawful link was brought in by a lawful link, so each rank is defined, by the rules of a team and any others
+/// that list nobody who isn't brought in.
+pub fn rank_is_defined()
+    ensures team { TeamRulesBringIn }
+    ensures defined { RankIsDefined }
+{}
+
+/// Two sets with one order mean the same: one team, and of the connected links the same places, strikes and verdicts.
+pub fn meaning_is_of_order()
+    ensures { MeaningIsOfOrder }
+{}
+
+/// Links that wait have no effect.
+pub fn waiting_have_no_effect()
+    ensures { WaitingHaveNoEffect }
+{}
+
+/// Two lists of the same links, in whatever order, mean the same.
+pub fn meaning_is_of_set()
+    ensures { MeaningIsOfSet }
+{}
+
+/// Two lists of the same links, in whatever order, mean the same to a team and have one text of show.
 pub fn text_is_of_set()
     ensures { TextIsOfSet }
+{}
+
+/// Where no key line was taken, a key is owed for the team, each role and each user, and nothing else.
+pub fn keyless_owe_each_key()
+    ensures { KeylessOweEachKey }
 {}
 
 /// A root, titles beside each other, a join, a stranger's title, and a link that waits: the team and what became of each.
