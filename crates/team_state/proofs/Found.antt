@@ -28,3 +28,9 @@ listed_first true true user = refl
 listed_first true false user = refl
 listed_first false true user = refl
 listed_first false false user = refl
+
+pub and_turned : (a b : Bool) → (a && b) ≡ (b && a)
+and_turned true true = refl
+and_turned true false = refl
+and_turned false true = refl
+and_turned false false = refl

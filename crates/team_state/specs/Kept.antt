@@ -14,7 +14,7 @@ use Rattle.key_reach.specs.Keys.{is_device, same_scope}
 use Rattle.team_model.specs.declared.terms.Member.{Member}
 use Rattle.team_model.specs.declared.terms.Device.{Device}
 use Rattle.team_model.specs.declared.terms.Invitation.{Invitation}
-use Rattle.team_model.specs.State.{State}
+use Rattle.team_model.specs.State.{State, admin}
 use Rattle.team_model.specs.KeyTables.{all_keys, live_scopes}
 use Rattle.team_state.specs.Rows.{Ascend, with_row, without_key}
 
@@ -42,6 +42,13 @@ member_has u r m = same_name m.user u && has_name m.roles r
 
 abbrev pub row_lists : Name → Name → Device → Bool
 row_lists u i d = d.listed && same_name d.id i && same_name d.user u
+
+abbrev pub is_listed_row : Name → Device → Bool
+is_listed_row i d = d.listed && same_name d.id i
+
+-- whether a member is an admin, and isn't this user
+abbrev pub is_other_admin : Name → Member → Bool
+is_other_admin u m = has_name m.roles admin && not (same_name m.user u)
 
 -- the devices that stay listed without a user
 abbrev pub stays_listed : Name → Device → Bool

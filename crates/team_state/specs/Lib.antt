@@ -1,3 +1,5 @@
 pub mod ArrowLaws
+pub mod AscentLaws
 pub mod Kept
+pub mod Questions
 pub mod Rows

@@ -1,5 +1,5 @@
 -- Rows with a key each, at their places in the order of their keys.
-use Rattle.std.specs.Prelude.{◌≡◌, Bool, not, List, ◌++◌, filter, map}
+use Rattle.std.specs.Prelude.{◌≡◌, Bool, not, List, ◌++◌, filter, find, map, Option}
 use Rattle.std.specs.List.{AllByRecursion}
 use Rattle.std.specs.List.Sorted.{IsStrictlySortedBy}
 use Rattle.std.specs.Ordering.{is_lt}
@@ -36,6 +36,10 @@ module _ {A K : Type 0} (same : K → K → Bool) (key : A → K) where
   -- the rows without those that have the key
   abbrev pub without_key : K → List A → List A
   without_key k rows = filter (λ row. not (same (key row) k)) rows
+
+  -- the first row that has the key, if there is one
+  abbrev pub row_with : K → List A → Option A
+  row_with k rows = find (λ row. same (key row) k) rows
 
 module _ {A K : Type 0} (order : K → K → Ordering) (same : K → K → Bool) (key : A → K) where
   -- the rows with this one in the place of the row that has its key, or else at its place in the order

@@ -5,15 +5,11 @@
 //! tables say of keys is shown through `KeyTable`.
 #![tactic(auto)]
 
-#[cfg(test)]
-mod key_tests;
 mod kinds;
 mod looking;
 mod rows;
 mod state;
 mod table;
-#[cfg(test)]
-mod tests;
 mod writing;
 
 pub use state::TeamState;

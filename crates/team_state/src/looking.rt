@@ -1,15 +1,15 @@
-ghost use Rattle.std.specs.Prelude.{◌≡◌, ◌&&◌, not, codes};
+ghost use Rattle.std.specs.Prelude.{◌≡◌, ◌&&◌, not, codes, filter, length};
 ghost use Rattle.std.specs.List.{list_any};
 ghost use Rattle.team_sets.specs.Closure.{has};
 ghost use Rattle.team_sets.specs.Names.{has_name, same_name};
 ghost use Rattle.tg_text.specs.Order.{scope_cmp};
 ghost use Rattle.key_reach.specs.Keys.{same_scope};
 ghost use Rattle.team_model.specs.State.{admin};
-ghost use Rattle.team_state.specs.Kept.{device_key, member_has, member_key, name_cmp, row_lists};
+ghost use Rattle.team_state.specs.Kept.{device_key, is_listed_row, is_other_admin, member_has, member_key, name_cmp, row_lists};
 ghost use Rattle.team_state.specs.Rows.{Ascend};
 
 use crate::rows::{Row, place_of};
-use team_model::{Device, Member};
+use team_model::{Device, Invitation, Member};
 use tg_text::{DeviceId, RoleName, Scope, UserName};
 
 // Whether a table has a row with a key.
@@ -76,6 +76,71 @@ fn is_listed_for(device: &Device, user: &UserName) -> bool
     ensures { result ≡ (device.now.listed && same_name device.now.user user.now) }
 {
     device.listed && device.user == *user
+}
+
+/// Whether a device was ever listed.
+pub(crate) fn has_device(devices: &[Device], device: &DeviceId) -> bool
+    requires { Ascend name_cmp device_key devices.now }
+    ensures { result ≡ list_any (λ d. same_name (device_key d) device.now) devices.now }
+{
+    has_row(devices, device)
+}
+
+/// Whether a device is listed.
+pub(crate) fn is_listed(devices: &[Device], device: &DeviceId) -> bool
+    requires { Ascend name_cmp device_key devices.now }
+    ensures { result ≡ list_any (is_listed_row device.now) devices.now }
+{
+    match place_of(devices, device) {
+        Ok(place) => devices[place].listed,
+        Err(_) => false,
+    }
+}
+
+/// Whether another user than this one has the role of an admin.
+pub(crate) fn has_other_admin(members: &[Member], user: &UserName) -> bool
+    ensures { result ≡ list_any (is_other_admin user.now) members.now }
+{
+    members.iter().any(|member| is_other_admin(member, user))
+}
+
+fn is_other_admin(member: &Member, user: &UserName) -> bool
+    ensures { result ≡ is_other_admin user.now member.now }
+{
+    has_name(member.roles.as_slice(), &RoleName::admin()) && member.user != *user
+}
+
+/// How many devices were ever listed for a user.
+pub(crate) fn count_devices(devices: &[Device], user: &UserName) -> usize
+    ensures { result ≡ length (filter (λ d. same_name d.user user.now) devices.now) }
+{
+    devices.iter().filter(|device| is_of(device, user)).count()
+}
+
+fn is_of(device: &Device, user: &UserName) -> bool
+    ensures { result ≡ same_name device.now.user user.now }
+{
+    device.user == *user
+}
+
+/// How many devices are listed for a user.
+pub(crate) fn count_listed(devices: &[Device], user: &UserName) -> usize
+    ensures { result ≡ length (filter (λ d. d.listed && same_name d.user user.now) devices.now) }
+{
+    devices
+        .iter()
+        .filter(|device| is_listed_for(device, user))
+        .count()
+}
+
+/// How many invitations aren't closed.
+pub(crate) fn count_open(invitations: &[Invitation]) -> usize
+    ensures { result ≡ length (filter (λ i. not i.closed) invitations.now) }
+{
+    invitations
+        .iter()
+        .filter(|invitation| !invitation.closed)
+        .count()
 }
 
 /// Whether an arrow between roles is allowed: from the role `admin` to another.

@@ -1,8 +1,8 @@
-ghost use Rattle.std.specs.Prelude.{◌≡◌, Bool, ◌<◌, ◌+◌, [], ◌∷◌, drop, take, length, IfErr, IfOk, slice_index_or, vec_len, vec_capacity};
+ghost use Rattle.std.specs.Prelude.{◌≡◌, Bool, ◌<◌, ◌+◌, [], ◌∷◌, drop, take, length, IfErr, IfOk, option_copied, slice_index_or, vec_len, vec_capacity};
 ghost use Rattle.std.specs.declared.cmp.Ordering.{Ordering};
 ghost use Rattle.std.specs.Ordering.{eq_by_cmp};
 ghost use Rattle.std.specs.List.Sorted.{IsSearchInRange};
-ghost use Rattle.team_state.specs.Rows.{Ascend, IsSplit, with_row, without_key};
+ghost use Rattle.team_state.specs.Rows.{Ascend, IsSplit, row_with, with_row, without_key};
 
 use std::alloc::Global;
 use tg_text::Memory;
@@ -41,6 +41,17 @@ pub(crate) fn place_of<T: Row>(rows: &[T], key: &T::Key) -> Result<usize, usize>
     ensures absent { IfErr result (λ i. IsSplit T.order T.key_of key.now rows.now (take i rows.now) [] (drop i rows.now)) }
 {
     rows.binary_search_by_key(key, |row| row.key())
+}
+
+/// The row with a key.
+pub(crate) fn row_of<'a, T: Row>(rows: &'a [T], key: &T::Key) -> Option<&'a T>
+    requires { Ascend T.order T.key_of rows.now }
+    ensures { option_copied result ≡ row_with T.same T.key_of key.now rows.now }
+{
+    match place_of(rows, key) {
+        Ok(place) => Some(&rows[place]),
+        Err(_) => None,
+    }
 }
 
 /// Puts a row in the place of the one with its key, or at its place in the order.

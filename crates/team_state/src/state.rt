@@ -2,13 +2,17 @@ ghost use Rattle.std.specs.Prelude.{◌≡◌, [], false, IfOk, option_copied, O
 ghost use Rattle.key_reach.specs.Keys.{is_device};
 ghost use Rattle.team_model.specs.KeyTables.{key_table};
 ghost use Rattle.team_sets.specs.Names.{has_name};
-ghost use Rattle.team_model.specs.State.{empty_state, has_role, is_admin, is_empty_state, lists_device, lists_user};
+ghost use Rattle.team_model.specs.State.{devices_ever, empty_state, has_role, is_admin, is_empty_state, is_listed, is_only_admin, lists_device, lists_user, was_listed};
 ghost use Rattle.team_model.specs.Writes as after;
+ghost use Rattle.team_sets.specs.SortedLaws.{IsAscending, by_names};
+ghost use Rattle.team_state.specs.AscentLaws.{TablesAscend};
+ghost use Rattle.team_state.specs.Questions.{current_key, device_row, devices_listed, invitation_row, member_row, open_invitations};
 
 use crate::looking::{
-    has_member, has_role, has_scope, leads_to_role, lists_device, member_has_role,
+    count_devices, count_listed, count_open, has_device, has_member, has_other_admin, has_role,
+    has_scope, is_listed, leads_to_role, lists_device, member_has_role,
 };
-use crate::rows::Piece;
+use crate::rows::{Piece, row_of};
 use crate::table::{Table, append, drop_both, make_table, put, put_both};
 use crate::writing::{drop_user, put_device_rows, scopes_without};
 use key_reach::KeyTable;
@@ -97,28 +101,32 @@ impl TeamState {
 
     /// The listed users, in ascending order of their names.
     pub fn members(&self) -> &[Member]
-        ensures { result.now ≡ self.now.members }
+        ensures members { result.now ≡ self.now.members }
+        ensures ascend { IsAscending (by_names (λ m. m.user)) result.now }
     {
         self.members.rows.as_slice()
     }
 
     /// The roles that there are, in ascending order.
     pub fn roles(&self) -> &[RoleName]
-        ensures { result.now ≡ self.now.roles }
+        ensures roles { result.now ≡ self.now.roles }
+        ensures ascend { IsAscending (by_names (λ r. r)) result.now }
     {
         self.roles.rows.as_slice()
     }
 
     /// All devices that were ever listed, in ascending order of their ids.
     pub fn devices(&self) -> &[Device]
-        ensures { result.now ≡ self.now.devices }
+        ensures devices { result.now ≡ self.now.devices }
+        ensures ascend { IsAscending (by_names (λ d. d.id)) result.now }
     {
         self.devices.rows.as_slice()
     }
 
     /// All invitations that were ever made, in ascending order of their ids.
     pub fn invitations(&self) -> &[Invitation]
-        ensures { result.now ≡ self.now.invitations }
+        ensures invitations { result.now ≡ self.now.invitations }
+        ensures ascend { IsAscending (by_names (λ i. i.id)) result.now }
     {
         self.invitations.rows.as_slice()
     }
@@ -156,6 +164,83 @@ impl TeamState {
         ensures { result ≡ lists_device self.now user.now device.now }
     {
         lists_device(self.devices.rows.as_slice(), user, device)
+    }
+
+    /// The row of a listed user.
+    pub fn member(&self, user: &UserName) -> Option<&Member>
+        ensures { option_copied result ≡ member_row self.now user.now }
+    {
+        row_of(self.members.rows.as_slice(), user)
+    }
+
+    /// The row of a device that was ever listed.
+    pub fn device(&self, device: &DeviceId) -> Option<&Device>
+        ensures { option_copied result ≡ device_row self.now device.now }
+    {
+        row_of(self.devices.rows.as_slice(), device)
+    }
+
+    /// The row of an invitation that was ever made.
+    pub fn invitation(&self, id: &[u8; 32]) -> Option<&Invitation>
+        ensures { option_copied result ≡ invitation_row self.now id.now }
+    {
+        row_of(self.invitations.rows.as_slice(), id)
+    }
+
+    /// The current key of a scope that ever had one, or of a device that was ever listed.
+    pub fn current_key(&self, scope: &Scope) -> Option<&KeyId>
+        ensures { option_copied result ≡ current_key self.now scope.now }
+    {
+        row_of(self.keys.rows.as_slice(), scope)
+    }
+
+    /// Whether a device is listed.
+    pub fn is_listed(&self, device: &DeviceId) -> bool
+        ensures { result ≡ is_listed self.now device.now }
+    {
+        is_listed(self.devices.rows.as_slice(), device)
+    }
+
+    /// Whether a device was ever listed.
+    pub fn was_listed(&self, device: &DeviceId) -> bool
+        ensures { result ≡ was_listed self.now device.now }
+    {
+        has_device(self.devices.rows.as_slice(), device)
+    }
+
+    /// How many devices were ever listed for a user.
+    pub fn devices_ever(&self, user: &UserName) -> usize
+        ensures { result ≡ devices_ever self.now user.now }
+    {
+        count_devices(self.devices.rows.as_slice(), user)
+    }
+
+    /// How many devices are listed for a user.
+    pub fn devices_listed(&self, user: &UserName) -> usize
+        ensures { result ≡ devices_listed self.now user.now }
+    {
+        count_listed(self.devices.rows.as_slice(), user)
+    }
+
+    /// How many invitations are open.
+    pub fn open_invitations(&self) -> usize
+        ensures { result ≡ open_invitations self.now }
+    {
+        count_open(self.invitations.rows.as_slice())
+    }
+
+    /// Whether a user is an admin, and no other user is.
+    pub fn is_only_admin(&self, user: &UserName) -> bool
+        ensures { result ≡ is_only_admin self.now user.now }
+    {
+        self.is_admin(user) && !has_other_admin(self.members.rows.as_slice(), user)
+    }
+
+    /// The tables ascend, the current keys too. A law: what it reads is left.
+    pub fn tables_ascend(&self)
+        ensures { TablesAscend self.now }
+    {
+        let _keys = self.keys.rows.as_slice();
     }
 
     /// Gives the team a title.
