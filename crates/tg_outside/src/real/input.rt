@@ -4,7 +4,7 @@ use crate::fault::Failed;
 use crate::source::Source;
 use std::io::Read;
 
-/// A reader of the standard library as a source, as standard input. It tells what the reader tells.
+/// A reader of the standard library as a source, as standard input. What is left is known where the reader says it.
 #[derive(Drop)]
 pub struct Input<R: Read> {
     reader: R,

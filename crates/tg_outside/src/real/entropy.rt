@@ -1,11 +1,12 @@
-ghost use Rattle.std.specs.Prelude.{◌≡◌, None};
+ghost use Rattle.std.specs.Prelude.{◌≡◌, None, IfOk};
+ghost use Rattle.tg_outside.specs.Contents.{IsWord};
 
-use crate::entropy::Entropy;
+use crate::entropy::{Entropy, word_of};
 use crate::fault::Failed;
 use std::io::Read;
 use std::{fs, io, rt};
 
-/// The random bytes of the system, which tell nothing: a word is read of `/dev/urandom`.
+/// The random bytes of the system, which aren't known: a word is read of `/dev/urandom`.
 #[derive(Drop)]
 pub struct RealEntropy<'a, R: rt::Files> {
     rt: &'a R,
@@ -37,8 +38,10 @@ impl<R: rt::Files> Entropy for RealEntropy<'_, R> {
     }
 }
 
-fn read_random<R: rt::Files>(rt: &R) -> io::Result<[u8; 32]> {
+fn read_random<R: rt::Files>(rt: &R) -> io::Result<[u8; 32]>
+    ensures { IfOk result IsWord }
+{
     let mut word = [0; 32];
     fs::open(rt, "/dev/urandom")?.read_exact(&mut word)?;
-    Ok(word)
+    Ok(word_of(word))
 }

@@ -4,7 +4,7 @@ use crate::clock::Clock;
 use std::rt;
 use std::time::SystemTime;
 
-/// The clock of the system, which tells nothing. It says 0 where the system says no time, or one before 1970.
+/// The clock of the system, whose moment isn't known. It says 0 where the system says no time, or one before 1970.
 #[derive(Clone, Copy)]
 pub struct RealClock<'a, R: rt::Clock> {
     rt: &'a R,

@@ -4,7 +4,7 @@ use crate::fault::Failed;
 use crate::sink::Sink;
 use std::io::Write;
 
-/// A writer of the standard library as a sink, as standard output. It tells what the writer tells.
+/// A writer of the standard library as a sink, as standard output. What it took is known where the writer says it.
 #[derive(Drop)]
 pub struct Output<W: Write> {
     writer: W,

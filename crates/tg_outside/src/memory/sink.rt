@@ -1,7 +1,7 @@
 ghost use Rattle.std.specs.Prelude.{◌≡◌, [], Some, IfSome};
 
-use crate::calls::Calls;
 use crate::fault::Failed;
+use crate::memory::calls::Calls;
 use crate::sink::Sink;
 use std::alloc::Global;
 use tg_text::Bytes;

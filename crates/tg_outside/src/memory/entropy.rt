@@ -1,8 +1,8 @@
 ghost use Rattle.std.specs.Prelude.{◌≡◌, Some};
 
-use crate::calls::Calls;
-use crate::entropy::Entropy;
+use crate::entropy::{Entropy, word_of};
 use crate::fault::Failed;
+use crate::memory::calls::Calls;
 
 /// A list of words to draw, of which some calls are to fail. Which do is tested alone. Where no word is left a draw fails,
 /// and is counted as a fault.
@@ -37,7 +37,7 @@ impl Entropy for ListEntropy<'_> {
         match self.words {
             [word, rest @ ..] => {
                 self.words = rest;
-                Ok(*word)
+                Ok(word_of(*word))
             }
             [] => {
                 self.calls.count_fault();

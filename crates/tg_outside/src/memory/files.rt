@@ -2,9 +2,9 @@ ghost use Rattle.std.specs.Prelude.{◌≡◌, Some, OnOk, OnErr, IfSome, option
 ghost use Rattle.std.specs.Option.{option_copied};
 ghost use Rattle.std.specs.FinMap as map;
 
-use crate::calls::Calls;
 use crate::fault::Fault;
 use crate::files::Files;
+use crate::memory::calls::Calls;
 use crate::table::Table;
 use std::alloc::Global;
 use tg_text::{Bytes, Memory};

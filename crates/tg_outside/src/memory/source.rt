@@ -1,7 +1,7 @@
 ghost use Rattle.std.specs.Prelude.{◌≡◌, Some};
 
-use crate::calls::Calls;
 use crate::fault::Failed;
+use crate::memory::calls::Calls;
 use crate::rest::Rest;
 use crate::source::Source;
 

@@ -4,10 +4,11 @@ ghost use Rattle.tg_outside.specs.declared.fault.Fault.TheVariants.{Failed as ha
 
 use crate::fault::Fault;
 use crate::files::Files;
+use crate::real::target::target_of;
 use std::alloc::Global;
-use std::fs::{OpenFile, OpenOptions};
+use std::fs::{OpenFile, OpenOptions, Permissions};
 use std::io::{Error, ErrorKind, Read, Write};
-use std::os::unix::fs::OpenOptionsExt;
+use std::os::unix::fs::{OpenOptionsExt, PermissionsExt};
 use std::{fs, io, rt};
 use tg_text::Bytes;
 
@@ -20,12 +21,15 @@ const SECRET_STARTS: [&[u8]; 2] = [b"team-key ", b"team-token "];
 // How many names are tried for the file that is written beside.
 const MOST_TRIES: u32 = 1_000;
 
-/// The files of the system, which tell nothing of their contents.
+/// The files of the system, whose contents aren't known.
 ///
 /// Only a file that isn't found is absent. A directory, a name with a file as a folder in it and a file that may not be
-/// read are failed reads. A read gives at most the first 268,435,457 bytes. A replace writes a new file beside, under a
-/// name that no file has, and renames it. Its owner alone may read and write a file that begins as those do that hold
-/// secrets; who may read another is as the system's mask says.
+/// read are failed reads. A read gives at most the first 268,435,457 bytes.
+///
+/// A replace follows links to the file that the name leads to, writes a new file beside that one, under a name that no file
+/// has, and renames it. What is there and is no file, as a folder or a device, is a failed replace. The new file has the
+/// permission bits of the one that it replaces, where the system lets it; who may read a file where none was is as the
+/// system's mask says. A file that begins as those do that hold secrets has no bits but its owner's.
 #[derive(Drop)]
 pub struct RealFiles<'a, R: rt::Files> {
     rt: &'a R,
@@ -87,8 +91,17 @@ fn read_file<R: rt::Files>(rt: &R, alloc: Global, name: &str) -> io::Result<Vec<
 }
 
 fn replace_file<R: rt::Files>(rt: &R, alloc: Global, name: &str, bytes: &[u8]) -> io::Result<()> {
-    let (beside, file) = create_beside(rt, alloc, name, mode_of(bytes))?;
-    let done = match write_file(file, bytes) {
+    let target = target_of(rt, alloc, name)?;
+    let name = target.name.as_str();
+    let allowed = allowed_bits(bytes);
+    // Until it has the bits that are kept it is its owner's alone.
+    let first = if target.bits.is_some() {
+        0o600
+    } else {
+        0o666 & allowed
+    };
+    let (beside, file) = create_beside(rt, alloc, name, first)?;
+    let done = match write_file(file, bytes, target.bits.map(|bits| bits & allowed)) {
         Ok(()) => fs::rename(rt, beside.as_str(), name),
         Err(error) => Err(error),
     };
@@ -99,14 +112,14 @@ fn replace_file<R: rt::Files>(rt: &R, alloc: Global, name: &str, bytes: &[u8]) -
     done
 }
 
-// The permission bits of a file of these bytes, of which the system's mask takes some away.
-fn mode_of(bytes: &[u8]) -> u32 {
+// The permission bits that a file of these bytes may have.
+fn allowed_bits(bytes: &[u8]) -> u32 {
     for start in SECRET_STARTS {
         if bytes.starts_with(start) {
-            return 0o600;
+            return 0o700;
         }
     }
-    0o666
+    0o777
 }
 
 // Makes a file beside, under a name that no file has.
@@ -129,8 +142,15 @@ fn create_beside<R: rt::Files>(
     Err(Error::from(ErrorKind::AlreadyExists))
 }
 
-// The bytes are with the system before the file is closed.
-fn write_file<F: Write + OpenFile + Drop>(mut file: F, bytes: &[u8]) -> io::Result<()> {
+// The bytes are with the system before the file is closed. A system that lets nobody set the bits is no fault.
+fn write_file<F: Write + OpenFile + Drop>(
+    mut file: F,
+    bytes: &[u8],
+    bits: Option<u32>,
+) -> io::Result<()> {
     file.write_all(bytes)?;
+    if let Some(bits) = bits {
+        let _kept = file.set_permissions(Permissions::from_mode(bits)).is_ok();
+    }
     file.sync_all()
 }
