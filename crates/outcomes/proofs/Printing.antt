@@ -1,56 +1,226 @@
 -- What a command has done once its answer is printed, whole or in part.
-use Rattle.std.proofs.Common.{◌≡◌, ◌≢◌, ◌≤◌, ℕ, List, [], ◌++◌, Option, Result, Err, Ok, IfOk, ◌⊎◌, sym, ap, ◌∙◌, subst, arith, inl, inr}
+use Rattle.std.proofs.Common.{◌≡◌, ◌≢◌, ◌≤◌, ◌<◌, ℕ, List, [], ◌∷◌, ◌++◌, Option, Some, None, IfSome, IsErrAnd, Result, Err, Ok, IfOk, ◌⊎◌, refl, append_assoc, sym, ap, ◌∙◌, subst, arith, inl, inr}
 use Rattle.std.specs.Io.KnownBytes.{Appends}
-use Rattle.tg_outside.specs.declared.fault.Fault.{Fault}
-use Rattle.tg_outside.specs.declared.fault.Fault.TheVariants.{Failed}
 use Rattle.tg_outside.specs.Causes.{Rose}
+use Rattle.tg_outside.specs.Contents.{FileMap}
+use Rattle.tg_outside.specs.declared.fault.Fault.{Fault}
+use Rattle.tg_outside.specs.declared.fault.Fault.TheVariants as fault
 use Rattle.outcomes.specs.declared.answer.Answer.{Answer}
-use Rattle.outcomes.specs.Steps.{World, Step, Outcome, after, writes, saying}
-use Rattle.outcomes.specs.Seeing.{Seen, Tells, IsCut, Counts, IsLater, Rises}
-use Rattle.outcomes.specs.Ending.{Prepares, Stops, Runs, IsFaulted}
-use Rattle.outcomes.proofs.Joining.{after-append, cut-all, cut-then, written, written-cut}
+use Rattle.outcomes.specs.declared.put.Put.{Put}
+use Rattle.outcomes.specs.declared.stop.Stop.{Stop}
+use Rattle.outcomes.specs.declared.stop.Stop.TheVariants.{Refused, Failed, Memory}
+use Rattle.outcomes.specs.Steps.{World, Step, Outcome, after, draws, puts, writes, saying, acting, put, replace}
+use Rattle.outcomes.specs.Seeing.{Contents, WithFiles, WithFilesAndDraws, AreKnown, IsCut, Counts, IsLater, Rises}
+use Rattle.outcomes.specs.Ending.{Runs, IsBodyOf, IsCutOf, IsDoneWith, IsPrepared, IsConcluded, answer_of, stop_of, IsFaulted}
+use Rattle.outcomes.proofs.Joining.{after-append, cut-all, cut-first, cut-none, cut-then, written, written-cut}
 
--- the answer was printed whole
-pub printed : (outcome : World → Outcome) (old seen : Seen) (t u : Option (List ℕ)) (answer : Result Answer Fault) (a : Answer)
-    → answer ≡ Ok a → Appends t u a.text → Prepares outcome old (record seen { taken = t }) answer
-    → Runs outcome old (record seen { taken = u }) a.status
-printed outcome old seen t u answer a e h p =
-    let known = subst (λ (r : Result Answer Fault). Prepares outcome old (record seen { taken = t }) r) e p in
-    let all : (w : World) → Tells old w → ((outcome w).status ≡ a.status) × Tells (record seen { taken = u }) (after (outcome w).steps w) =
-    λ w is. let k = known w is in (
-      ap (λ (o : Outcome). o.status) k.1,
-      subst (λ (l : List Step). Tells (record seen { taken = u }) (after l w)) (sym (ap (λ (o : Outcome). o.steps) k.1)) (rw after-append (written t u a.text seen (after k.0 w) h k.2)),
-    ) in record {
-      done = λ w is lt. (sym (all w is).0, (all w is).1);
-      cut = λ w is. cut-all (outcome w).steps w (record seen { taken = u }) (all w is).1;
-    }
+-- a body whose answer was printed is the command
+pub runs_concluded : (does : World → Outcome → Type 0) (old rest : Contents) (t u : Option (List ℕ)) (r : Result Answer Stop) (status : ℕ)
+    → IsConcluded t u (answer_of r) status → IsBodyOf does old (record rest { taken = t }) r → Runs does old (record rest { taken = u }) status
+runs_concluded does old rest t u r status h body = record { done = λ w is lt. done (answer_of r) h body.prepared w is lt; cut = λ w is. cut (answer_of r) h body.prepared w is }
+  where
+    done : (o : Option Answer) → IsConcluded t u o status → IfSome o (λ a. (w : World) → AreKnown old w → IsPrepared does (record rest { taken = t }) w a)
+        → (w : World) → AreKnown old w → status < 5 → IsDoneWith does (record rest { taken = u }) w status
+    done None h p w is lt = absurd (let high = h.0 in omega (arith, high, lt))
+    done (Some a) h p w is lt = let k = p w is in let all = h.whole lt in
+        (record { status = a.status; steps = k.0 ++ writes a.text }, k.1, all.0, rw after-append (written t u a.text rest (after k.0 w) all.1 k.2))
 
--- a part of it was printed
-pub printed-cut : (outcome : World → Outcome) (old seen : Seen) (t u : Option (List ℕ)) (answer : Result Answer Fault) (a : Answer)
-    → answer ≡ Ok a → (done : List ℕ) × (rest : List ℕ) × (a.text ≡ done ++ rest) × Appends t u done
-    → Prepares outcome old (record seen { taken = t }) answer
-    → Runs outcome old (record seen { taken = u }) 5
-printed-cut outcome old seen t u answer a e h p =
-    let known = subst (λ (r : Result Answer Fault). Prepares outcome old (record seen { taken = t }) r) e p in record {
-      done = λ w is lt. absurd (omega (arith, lt));
-      cut = λ w is. let k = known w is in subst (λ (l : List Step). IsCut (record seen { taken = u }) l w) (sym (ap (λ (o : Outcome). o.steps) k.1))
-          (cut-then k.0 (writes a.text) w (record seen { taken = u }) (written-cut t u a.text seen (after k.0 w) h k.2));
-    }
+    cut : (o : Option Answer) → IsConcluded t u o status → IfSome o (λ a. (w : World) → AreKnown old w → IsPrepared does (record rest { taken = t }) w a)
+        → (w : World) → AreKnown old w → IsCutOf does (record rest { taken = u }) w
+    cut None h p w is = same (body.cut w is)
+      where
+        told : (v : World) → AreKnown (record rest { taken = t }) v → AreKnown (record rest { taken = u }) v
+        told v k = record { files = k.files; draws = k.draws; moment = k.moment; input = k.input; taken = h.1 ∙ k.taken }
 
--- the answer has this status and this text, and all other steps are done
-pub prepares_said : (outcome : World → Outcome) (old now : Seen) (r : Result Answer Fault) (status : ℕ) (text : List ℕ)
-    → IfOk r (λ a. (a.status ≡ status) × (a.text ≡ text))
-    → ((w : World) → Tells old w → (steps : List Step) × (outcome w ≡ record { status = status; steps = steps ++ writes text }) × Tells now (after steps w))
-    → Prepares outcome old now r
-prepares_said outcome old now (Err e) status text h all = tt
-prepares_said outcome old now (Ok a) status text h all = λ w is. let k = all w is in (k.0, rw (h.0, h.1) k.1, k.2)
+        same : IsCutOf does (record rest { taken = t }) w → IsCutOf does (record rest { taken = u }) w
+        same (inl k) = inl (told w k)
+        same (inr d) = let c = d.2 in inr (d.0, d.1, record { first = c.first; rest = c.rest; whole = c.whole; told = told (after c.first w) c.told })
+    cut (Some a) h p w is = let k = p w is in
+        inr (record { status = a.status; steps = k.0 ++ writes a.text }, k.1, cut-then k.0 (writes a.text) w (record rest { taken = u }) (written-cut t u a.text rest (after k.0 w) h.part k.2))
 
--- nothing is done but to print
-pub prepares_saying : (outcome : World → Outcome) (old now : Seen) (r : Result Answer Fault) (status : ℕ) (text : List ℕ)
-    → IfOk r (λ a. (a.status ≡ status) × (a.text ≡ text))
-    → ((w : World) → Tells old w → (outcome w ≡ saying status text) × Tells now w)
-    → Prepares outcome old now r
-prepares_saying outcome old now r status text h all = prepares_said outcome old now r status text h (λ w is. let k = all w is in ([], k.0, k.1))
+-- the same of a body that touches files alone
+pub runs_files : (does : World → Outcome → Type 0) (old : Contents) (mid : Option FileMap) (u : Option (List ℕ)) (r : Result Answer Stop) (status : ℕ)
+    → WithFiles old.files mid (λ old new. IsBodyOf does old new r) → IsConcluded old.taken u (answer_of r) status
+    → Runs does old (record old { files = mid; taken = u }) status
+runs_files does old mid u r status body printed = runs_concluded does old (record old { files = mid }) old.taken u r status printed (body old)
+
+-- the files tell the same as before
+pub known_same : (rest : Contents) (w : World) (old new : Option FileMap) → new ≡ old → AreKnown (record rest { files = old }) w → AreKnown (record rest { files = new }) w
+known_same rest w old new e is = record { files = e ∙ is.files; draws = is.draws; moment = is.moment; input = is.input; taken = is.taken }
+
+-- nothing but to print
+pub body_says : (does : World → Outcome → Type 0) (old new : Contents) (r : Result Answer Stop) → ((w : World) → AreKnown old w → AreKnown new w)
+    → ((w : World) → AreKnown old w → IfSome (answer_of r) (λ a. does w (saying a.status a.text)))
+    → IsBodyOf does old new r
+body_says does old new (Ok a) same says = record { prepared = λ w is. ([], says w is, same w is); cut = λ w is. inl (same w is) }
+body_says does old new (Err (Refused a)) same says = record { prepared = λ w is. ([], says w is, same w is); cut = λ w is. inl (same w is) }
+body_says does old new (Err Failed) same says = record { prepared = tt; cut = λ w is. inl (same w is) }
+body_says does old new (Err Memory) same says = record { prepared = tt; cut = λ w is. inl (same w is) }
+
+-- The body of what is left to do, where each of its outcomes is one of the whole.
+pub body_more : (less more : World → Outcome → Type 0) (old mid new : Contents) (r : Result Answer Stop)
+    → ((w : World) → AreKnown old w → AreKnown mid w × ((o : Outcome) → less w o → more w o))
+    → IsBodyOf less mid new r → IsBodyOf more old new r
+body_more less more old mid new r same body = record { prepared = answered r body.prepared; cut = λ w is. let s = same w is in cut w s.1 (body.cut w s.0) }
+  where
+    cut : (w : World) → ((o : Outcome) → less w o → more w o) → IsCutOf less new w → IsCutOf more new w
+    cut w f (inl none) = inl none
+    cut w f (inr d) = inr (d.0, f d.0 d.1, d.2)
+
+    one : (a : Answer) → ((w : World) → AreKnown mid w → IsPrepared less new w a) → (w : World) → AreKnown old w → IsPrepared more new w a
+    one a h w is = let s = same w is in let k = h w s.0 in (k.0, s.1 (record { status = a.status; steps = k.0 ++ writes a.text }) k.1, k.2)
+
+    answered : (r : Result Answer Stop) → IfSome (answer_of r) (λ a. (w : World) → AreKnown mid w → IsPrepared less new w a)
+        → IfSome (answer_of r) (λ a. (w : World) → AreKnown old w → IsPrepared more new w a)
+    answered (Ok a) h = one a h
+    answered (Err (Refused a)) h = one a h
+    answered (Err Failed) h = tt
+    answered (Err Memory) h = tt
+
+-- Some steps were done, and then the body of what is left. Each outcome of what is left, after these steps, is one of the whole, and there is one.
+pub body_after : (less more : World → Outcome → Type 0) (old mid new : Contents) (r : Result Answer Stop) (steps : List Step)
+    → ((w : World) → AreKnown old w → AreKnown mid (after steps w))
+    → ((w : World) (o : Outcome) → AreKnown old w → less (after steps w) o → more w (record { status = o.status; steps = steps ++ o.steps }))
+    → ((w : World) → AreKnown old w → (o : Outcome) × less (after steps w) o)
+    → IsBodyOf less mid new r → IsBodyOf more old new r
+body_after less more old mid new r steps known same some body = record { prepared = answered r body.prepared; cut = λ w is. cut w is (body.cut (after steps w) (known w is)) }
+  where
+    cut : (w : World) → AreKnown old w → IsCutOf less new (after steps w) → IsCutOf more new w
+    cut w is (inl none) = let o = some w is in
+        inr (record { status = o.0.status; steps = steps ++ o.0.steps }, same w o.0 is o.1, cut-then steps o.0.steps w new (cut-none o.0.steps (after steps w) new none))
+    cut w is (inr d) = inr (record { status = d.0.status; steps = steps ++ d.0.steps }, same w d.0 is d.1, cut-then steps d.0.steps w new d.2)
+
+    one : (a : Answer) → ((w : World) → AreKnown mid w → IsPrepared less new w a) → (w : World) → AreKnown old w → IsPrepared more new w a
+    one a h w is = let k = h (after steps w) (known w is) in
+        (steps ++ k.0, rw append_assoc (same w (record { status = a.status; steps = k.0 ++ writes a.text }) is k.1), rw after-append k.2)
+
+    answered : (r : Result Answer Stop) → IfSome (answer_of r) (λ a. (w : World) → AreKnown mid w → IsPrepared less new w a)
+        → IfSome (answer_of r) (λ a. (w : World) → AreKnown old w → IsPrepared more new w a)
+    answered (Ok a) h = one a h
+    answered (Err (Refused a)) h = one a h
+    answered (Err Failed) h = tt
+    answered (Err Memory) h = tt
+
+-- the same of a body that touches files and entropy alone
+pub runs_files_draws : (does : World → Outcome → Type 0) (old : Contents) (mid : Option FileMap) (left : Option (List (List ℕ))) (u : Option (List ℕ)) (r : Result Answer Stop) (status : ℕ)
+    → WithFilesAndDraws old.files mid old.draws left (λ old new. IsBodyOf does old new r) → IsConcluded old.taken u (answer_of r) status
+    → Runs does old (record old { files = mid; draws = left; taken = u }) status
+runs_files_draws does old mid left u r status body printed = runs_concluded does old (record old { files = mid; draws = left }) old.taken u r status printed (body old)
+
+-- The body of an outcome that replaces files and prints, where the call that replaces did so, and what it cut short is known.
+pub body_acts : (does : World → Outcome → Type 0) (old new : Contents) (r : Result Answer Stop) (status n : ℕ) (all : List Put) (text : List ℕ)
+    → ((w : World) → AreKnown old w → does w (acting status n all text))
+    → IfSome (answer_of r) (λ a. (a.status ≡ status) × (a.text ≡ text))
+    → ((w : World) → AreKnown old w → IfSome (answer_of r) (λ _. AreKnown new (after (puts all) (after (draws n) w))))
+    → ((w : World) → AreKnown old w → IsCut new (draws n ++ puts all) w)
+    → IsBodyOf does old new r
+body_acts does old new r status n all text is_done said done cut = record {
+  prepared = answered r said done;
+  cut = λ w is. inr (
+    acting status n all text,
+    is_done w is,
+    rw (← append_assoc (draws n) (puts all) (writes text)) (cut-first (draws n ++ puts all) (writes text) w new (cut w is)),
+  );
+}
+  where
+    one : (a : Answer) → a.status ≡ status → a.text ≡ text → (w : World) → AreKnown old w → AreKnown new (after (puts all) (after (draws n) w)) → IsPrepared does new w a
+    one a s t w is k = (draws n ++ puts all, rw (s, t, append_assoc) (is_done w is), rw after-append k)
+
+    answered : (r : Result Answer Stop) → IfSome (answer_of r) (λ a. (a.status ≡ status) × (a.text ≡ text))
+        → ((w : World) → AreKnown old w → IfSome (answer_of r) (λ _. AreKnown new (after (puts all) (after (draws n) w))))
+        → IfSome (answer_of r) (λ a. (w : World) → AreKnown old w → IsPrepared does new w a)
+    answered (Ok a) h k = λ w is. one a h.0 h.1 w is (k w is)
+    answered (Err (Refused a)) h k = λ w is. one a h.0 h.1 w is (k w is)
+    answered (Err Failed) h k = tt
+    answered (Err Memory) h k = tt
+
+-- one file is replaced, and the text is to be printed
+pub body_replaced : (does : World → Outcome → Type 0) (old new : Option FileMap) (a : Answer) (name bytes : List ℕ)
+    → ((w : World) → old ≡ Some w.files → does w (acting a.status 0 (put name bytes ∷ []) a.text))
+    → ((rest : Contents) (w : World) → AreKnown (record rest { files = old }) w → AreKnown (record rest { files = new }) (after (replace name bytes ∷ []) w))
+    → WithFiles old new (λ old new. IsBodyOf does old new (Ok a))
+body_replaced does old new a name bytes is_done done = λ rest. record {
+  prepared = λ w is. (replace name bytes ∷ [], is_done w is.files, done rest w is);
+  cut = λ w is. inr (
+    acting a.status 0 (put name bytes ∷ []) a.text,
+    is_done w is.files,
+    cut-first (replace name bytes ∷ []) (writes a.text) w (record rest { files = new }) (cut-all (replace name bytes ∷ []) w (record rest { files = new }) (done rest w is)),
+  );
+}
+
+-- the replace failed
+pub body_cut : (does : World → Outcome → Type 0) (old new : Option FileMap) (r : Result Answer Stop) (f : Fault) (status : ℕ) (name bytes text : List ℕ) → IsErrAnd r (λ s. s ≡ stop_of f)
+    → ((w : World) → old ≡ Some w.files → does w (acting status 0 (put name bytes ∷ []) text))
+    → ((rest : Contents) (w : World) → AreKnown (record rest { files = old }) w → IsCut (record rest { files = new }) (replace name bytes ∷ []) w)
+    → WithFiles old new (λ old new. IsBodyOf does old new r)
+body_cut does old new r f status name bytes text e is_done cut = λ rest. record {
+  prepared = none rest r e;
+  cut = λ w is. inr (acting status 0 (put name bytes ∷ []) text, is_done w is.files, cut-first (replace name bytes ∷ []) (writes text) w (record rest { files = new }) (cut rest w is));
+}
+  where
+    fault_none : (rest : Contents) (f : Fault) → IfSome (answer_of (Err (stop_of f))) (λ a. (w : World) → AreKnown (record rest { files = old }) w → IsPrepared does (record rest { files = new }) w a)
+    fault_none rest fault.Failed = tt
+    fault_none rest fault.Memory = tt
+
+    none : (rest : Contents) (q : Result Answer Stop) → IsErrAnd q (λ s. s ≡ stop_of f) → IfSome (answer_of q) (λ a. (w : World) → AreKnown (record rest { files = old }) w → IsPrepared does (record rest { files = new }) w a)
+    none rest (Ok a) e = absurd e
+    none rest (Err s) e = subst (λ (s : Stop). IfSome (answer_of (Err s)) (λ a. (w : World) → AreKnown (record rest { files = old }) w → IsPrepared does (record rest { files = new }) w a)) (sym e) (fault_none rest f)
+
+-- a call failed, and what was done till then is known
+pub body_fails : (does : World → Outcome → Type 0) (old new : Contents) (r : Result Answer Stop) (f : Fault) → IsErrAnd r (λ s. s ≡ stop_of f)
+    → ((w : World) → AreKnown old w → IsCutOf does new w) → IsBodyOf does old new r
+body_fails does old new (Ok a) f e cut = absurd e
+body_fails does old new (Err s) f e cut = record { prepared = subst (λ (s : Stop). IfSome (answer_of (Err s)) (λ a. (w : World) → AreKnown old w → IsPrepared does new w a)) (sym e) (none f); cut = cut }
+  where
+    none : (f : Fault) → IfSome (answer_of (Err (stop_of f))) (λ a. (w : World) → AreKnown old w → IsPrepared does new w a)
+    none fault.Failed = tt
+    none fault.Memory = tt
+
+-- words were drawn, files replaced, and the text is to be printed
+pub body_did : (does : World → Outcome → Type 0) (old new : Contents) (a : Answer) (status n : ℕ) (all : List Put) (text : List ℕ)
+    → ((w : World) → AreKnown old w → does w (acting status n all text) × (a.status ≡ status) × (a.text ≡ text) × AreKnown new (after (puts all) (after (draws n) w)))
+    → IsBodyOf does old new (Ok a)
+body_did does old new a status n all text did = record {
+  prepared = λ w is. let k = did w is in (draws n ++ puts all, rw (k.1, k.2, append_assoc) k.0, rw after-append k.3);
+  cut = λ w is. let k = did w is in inr (
+    acting status n all text,
+    k.0,
+    rw (← append_assoc (draws n) (puts all) (writes text))
+        (cut-first (draws n ++ puts all) (writes text) w new (cut-then (draws n) (puts all) w new (cut-all (puts all) (after (draws n) w) new k.3))),
+  );
+}
+
+-- the same of whatever is answered, where what was cut short is known too
+pub body_works : (does : World → Outcome → Type 0) (old new : Contents) (r : Result Answer Stop) (status n : ℕ) (all : List Put) (text : List ℕ)
+    → ((w : World) → AreKnown old w → does w (acting status n all text)
+    × IfSome (answer_of r) (λ a. (a.status ≡ status) × (a.text ≡ text) × AreKnown new (after (puts all) (after (draws n) w)))
+    × IsCut new (puts all) (after (draws n) w))
+    → IsBodyOf does old new r
+body_works does old new r status n all text works = record { prepared = answered r (λ w is. let k = works w is in (k.0, k.1)); cut = λ w is. let k = works w is in inr (acting status n all text, k.0, cut k.2) }
+  where
+    cut : {w : World} → IsCut new (puts all) (after (draws n) w) → IsCut new (acting status n all text).steps w
+    cut {w} k = rw (← append_assoc (draws n) (puts all) (writes text)) (cut-first (draws n ++ puts all) (writes text) w new (cut-then (draws n) (puts all) w new k))
+
+    one : (a : Answer) → ((w : World) → AreKnown old w → does w (acting status n all text) × (a.status ≡ status) × (a.text ≡ text) × AreKnown new (after (puts all) (after (draws n) w)))
+        → (w : World) → AreKnown old w → IsPrepared does new w a
+    one a h w is = let k = h w is in (draws n ++ puts all, rw (k.1, k.2, append_assoc) k.0, rw after-append k.3)
+
+    answered : (r : Result Answer Stop)
+        → ((w : World) → AreKnown old w → does w (acting status n all text) × IfSome (answer_of r) (λ a. (a.status ≡ status) × (a.text ≡ text) × AreKnown new (after (puts all) (after (draws n) w))))
+        → IfSome (answer_of r) (λ a. (w : World) → AreKnown old w → IsPrepared does new w a)
+    answered (Ok a) h = one a (λ w is. let k = h w is in (k.0, k.1.0, k.1.1, k.1.2))
+    answered (Err (Refused a)) h = one a (λ w is. let k = h w is in (k.0, k.1.0, k.1.1, k.1.2))
+    answered (Err Failed) h = tt
+    answered (Err Memory) h = tt
+
+-- a fault is no answer
+pub no_answer : (f : Fault) (Y : Answer → Type 0) → IfSome (answer_of (Err (stop_of f))) Y
+no_answer fault.Failed Y = tt
+no_answer fault.Memory Y = tt
+
+pub fault_answers_nothing : (r : Result Answer Stop) (f : Fault) (Y : Answer → Type 0) → IsErrAnd r (λ s. s ≡ stop_of f) → IfSome (answer_of r) Y
+fault_answers_nothing (Ok a) f Y e = absurd e
+fault_answers_nothing (Err s) f Y e = subst (λ (s : Stop). IfSome (answer_of (Err s)) Y) (sym e) (no_answer f Y)
 
 rose_later : (a b c : ℕ) → a ≤ b → Rose b c → Rose a c
 rose_later a b c le rose = omega (arith, le, rose)
@@ -61,18 +231,8 @@ rises_later a b c later (inr (inl rose)) = inr (inl (rose_later a.draws b.draws 
 rises_later a b c later (inr (inr (inl rose))) = inr (inr (inl (rose_later a.input b.input c.input later.input rose)))
 rises_later a b c later (inr (inr (inr rose))) = inr (inr (inr (rose_later a.taken b.taken c.taken later.taken rose)))
 
--- the same of another definition, and of what was told before, where they come to the same
-pub prepares_more : (less more : World → Outcome) (old mid now : Seen) (r : Result Answer Fault) → ((w : World) → Tells old w → (more w ≡ less w) × Tells mid w)
-    → Prepares less mid now r → Prepares more old now r
-prepares_more less more old mid now (Err e) same h = tt
-prepares_more less more old mid now (Ok a) same h = λ w is. let s = same w is in let k = h w s.1 in (k.0, s.0 ∙ k.1, k.2)
-
-pub stops_more : (less more : World → Outcome) (old mid now : Seen) → ((w : World) → Tells old w → (more w ≡ less w) × Tells mid w)
-    → Stops less mid now → Stops more old now
-stops_more less more old mid now same h = λ w is. let s = same w is in subst (λ (o : Outcome). IsCut now o.steps w) (sym s.0) (h w s.1)
-
 -- the files alone may have failed
-pub faulted_files : {T : Type 0} (before now : ℕ) (counts : Counts) (r : Result T Fault) → before ≤ now → (r ≡ Err Failed → Rose before now)
+pub faulted_files : {T : Type 0} (before now : ℕ) (counts : Counts) (r : Result T Stop) → before ≤ now → (r ≡ Err Failed → Rose before now)
     → IsFaulted (record counts { files = before }) (record counts { files = now }) r
 faulted_files before now counts r le h = record {
   later = record { files = le; draws = omega arith; input = omega arith; taken = omega arith };
@@ -80,7 +240,7 @@ faulted_files before now counts r le h = record {
 }
 
 -- the entropy alone may have failed
-pub faulted_draws : {T : Type 0} (before now : ℕ) (counts : Counts) (r : Result T Fault) → before ≤ now → (r ≡ Err Failed → Rose before now)
+pub faulted_draws : {T : Type 0} (before now : ℕ) (counts : Counts) (r : Result T Stop) → before ≤ now → (r ≡ Err Failed → Rose before now)
     → IsFaulted (record counts { draws = before }) (record counts { draws = now }) r
 faulted_draws before now counts r le h = record {
   later = record { files = omega arith; draws = le; input = omega arith; taken = omega arith };
@@ -88,7 +248,7 @@ faulted_draws before now counts r le h = record {
 }
 
 -- files or entropy may have failed
-pub faulted_either : {T : Type 0} (before now words more : ℕ) (counts : Counts) (r : Result T Fault) → before ≤ now → words ≤ more
+pub faulted_either : {T : Type 0} (before now words more : ℕ) (counts : Counts) (r : Result T Stop) → before ≤ now → words ≤ more
     → (r ≡ Err Failed → Rose before now ⊎ Rose words more)
     → IsFaulted (record counts { files = before; draws = words }) (record counts { files = now; draws = more }) r
 faulted_either before now words more counts r le lt h = record {
@@ -100,11 +260,11 @@ faulted_either before now words more counts r le lt h = record {
   either (inr rose) = inr (inl rose)
 
 -- what failed before the command would answer
-pub faulted_before : {T U : Type 0} (before now : Counts) (e : Fault) → IsFaulted {T = T} before now (Err e) → IsFaulted {T = U} before now (Err e)
+pub faulted_before : {T U : Type 0} (before now : Counts) (e : Stop) → IsFaulted {T = T} before now (Err e) → IsFaulted {T = U} before now (Err e)
 faulted_before before now e h = record { later = h.later; failed = λ same. h.failed (let fault : e ≡ Failed = cc in ap Err fault) }
 
 -- more was called before
-pub faulted_then : {T : Type 0} (before mid now : Counts) (r : Result T Fault) → IsLater before mid → IsFaulted mid now r → IsFaulted before now r
+pub faulted_then : {T : Type 0} (before mid now : Counts) (r : Result T Stop) → IsLater before mid → IsFaulted mid now r → IsFaulted before now r
 faulted_then before mid now r later h = record {
   later = record {
     files = omega (arith, later.files, h.later.files);
@@ -116,7 +276,7 @@ faulted_then before mid now r later h = record {
 }
 
 -- nothing outside was called
-pub faulted_none : {T : Type 0} (counts : Counts) (r : Result T Fault) → r ≢ Err Failed → IsFaulted counts counts r
+pub faulted_none : {T : Type 0} (counts : Counts) (r : Result T Stop) → r ≢ Err Failed → IsFaulted counts counts r
 faulted_none counts r never = record {
   later = record { files = omega arith; draws = omega arith; input = omega arith; taken = omega arith };
   failed = λ e. absurd (never e);

@@ -9,10 +9,14 @@ mod answer;
 mod draw;
 mod laws;
 mod put;
-#[cfg(test)]
-mod tests;
+mod refusing;
+mod status;
+mod stop;
 
 pub use answer::{Answer, conclude};
 pub use draw::draw_word;
 pub use laws::{cut_after_first_part, cut_in_first_part, steps_of_two_parts};
 pub use put::{Put, replace_all, replace_one};
+pub use refusing::{FileWord, must_be_absent, open_bytes, refuse_file};
+pub use status::{BAD_FILE, DONE, FAULT, ITEM_REFUSED, NO_MEMORY, REFUSED, USAGE};
+pub use stop::Stop;
