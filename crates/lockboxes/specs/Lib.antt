@@ -1,4 +1,5 @@
 pub mod Boxes
+pub mod Digests
 pub mod Keeping
 pub mod Symbolic
 pub mod SymbolicLaws

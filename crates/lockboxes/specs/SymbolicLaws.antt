@@ -7,7 +7,12 @@ use Rattle.sha2.specs.Sha256.{sha256}
 use Rattle.sha2.proofs.Facts256.{length-sha256}
 use Rattle.tg_text.specs.Spelling.{IsHash}
 use Rattle.lockboxes.specs.Boxes.{IsBox}
+use Rattle.lockboxes.specs.Digests.{hash_of}
 use Rattle.lockboxes.specs.Symbolic.{symbolic_seal, symbolic_unseal}
+
+-- a symbolic public key is a digest
+pub symbolic_publics : (secret : List ℕ) → IsHash secret → IsHash (sha256 secret)
+symbolic_publics secret is = hash_of secret
 
 -- a symbolic box has 64 bytes
 pub symbolic_boxes : (secret to_public : List ℕ) → IsHash secret → IsHash to_public → IsBox (symbolic_seal secret to_public)

@@ -11,6 +11,3 @@ mod symbolic;
 pub use laws::{sealed_secrets_are_opened, symbolic_boxes_hold_their_secret};
 pub use sealer::Sealer;
 pub use symbolic::SymbolicKeeper;
-
-#[cfg(test)]
-mod tests;

@@ -29,6 +29,9 @@ pub trait Sealer {
     fn unseal(&self, bytes: &[u8], secret: &[u8; 32]) -> Option<[u8; 32]>
         ensures { result ≡ opened bytes.now secret.now };
 
+    /// The public key of a secret has 32 bytes.
+    ghost publics: { (secret : List ℕ) → IsHash secret → IsHash (public secret) };
+
     /// What is sealed is a box.
     ghost boxes: { (secret to_public : List ℕ) → IsHash secret → IsHash to_public → IsBox (sealed secret to_public) };
 

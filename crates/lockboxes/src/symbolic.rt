@@ -1,6 +1,6 @@
 ghost use Rattle.sha2.specs.Sha256.{sha256};
 ghost use Rattle.lockboxes.specs.Symbolic.{symbolic_seal, symbolic_unseal};
-ghost use Rattle.lockboxes.specs.SymbolicLaws.{symbolic_boxes, symbolic_opens};
+ghost use Rattle.lockboxes.specs.SymbolicLaws.{symbolic_boxes, symbolic_opens, symbolic_publics};
 
 use crate::sealer::Sealer;
 use sha2::{Digest, Sha256};
@@ -18,6 +18,8 @@ impl Sealer for SymbolicKeeper {
     ghost sealed = { symbolic_seal };
 
     ghost opened = { symbolic_unseal };
+
+    ghost publics = { symbolic_publics };
 
     ghost boxes = { symbolic_boxes };
 
