@@ -8,7 +8,7 @@ use Rattle.tg_text.proofs.FieldLaws.{decimal_lacks, decimal_once, hex_lacks, hex
 use Rattle.lms_keep.specs.declared.key_state.KeyState.{KeyState}
 use Rattle.lms_keep.specs.KeyText.{first_line, user_line, kinds_line, kinds_field, id_line, seed_line, secret_line, next_line, key_text, leaves, IsKeyState, KeyIsSpelledOnce}
 use Rattle.lms_keep.proofs.KindLaws.{kinds_lack, kinds_once, leaves_fit}
-use Rattle.lms_keep.proofs.OneLine.{spelled_once}
+use Rattle.tg_text.proofs.FieldLines.{spelled_once}
 
 -- the text from a line on
 abbrev pub from_next : KeyState → List ℕ
@@ -36,7 +36,7 @@ pub text_parts : (s : KeyState) → key_text s ≡ line_of first_line ++ from_us
 text_parts s =
     parts (line_of first_line) (user_line s.user) (kinds_line s.lms s.ots) (id_line s.id) (seed_line s.seed) (secret_line s.secret) (next_line s.next)
 
--- what stands behind the first line of the text of a key
+-- what stands after the first line of the text of a key
 pub rest_is : (bytes rest : List ℕ) (s : KeyState) → bytes ≡ line_of first_line ++ rest → bytes ≡ key_text s → rest ≡ from_user s
 rest_is bytes rest s e w = append_cancel_left (line_of first_line) rest (from_user s) (sym e ∙ w ∙ text_parts s)
 
@@ -57,15 +57,15 @@ same_key s t user lms ots id seed secret next =
 
 pub key_once : KeyIsSpelledOnce
 key_once s t is it e =
-    let user = spelled_once (codes "user ") s.user t.user (from_kinds s) (from_kinds t) (name_lacks 10 s.user refl is.user) (name_lacks 10 t.user refl it.user)
+    let user = spelled_once (codes "user") s.user t.user (from_kinds s) (from_kinds t) (name_lacks 10 s.user refl is.user) (name_lacks 10 t.user refl it.user)
     (append_cancel_left (line_of first_line) (from_user s) (from_user t) (sym (text_parts s) ∙ e ∙ text_parts t)) in
-    let kinds = spelled_once (codes "kinds ") (kinds_field s.lms s.ots) (kinds_field t.lms t.ots) (from_id s) (from_id t)
+    let kinds = spelled_once (codes "kinds") (kinds_field s.lms s.ots) (kinds_field t.lms t.ots) (from_id s) (from_id t)
     (kinds_lack s.lms s.ots is.kinds) (kinds_lack t.lms t.ots it.kinds) user.1 in
-    let id = spelled_once (codes "id ") (spell_hex s.id) (spell_hex t.id) (from_seed s) (from_seed t) (hex_lacks 10 s.id refl) (hex_lacks 10 t.id refl) kinds.1 in
-    let seed = spelled_once (codes "seed ") (spell_hex s.seed) (spell_hex t.seed) (from_secret s) (from_secret t) (hex_lacks 10 s.seed refl) (hex_lacks 10 t.seed refl) id.1 in
-    let secret = spelled_once (codes "secret ") (spell_hex s.secret) (spell_hex t.secret) (from_next s) (from_next t)
+    let id = spelled_once (codes "id") (spell_hex s.id) (spell_hex t.id) (from_seed s) (from_seed t) (hex_lacks 10 s.id refl) (hex_lacks 10 t.id refl) kinds.1 in
+    let seed = spelled_once (codes "seed") (spell_hex s.seed) (spell_hex t.seed) (from_secret s) (from_secret t) (hex_lacks 10 s.seed refl) (hex_lacks 10 t.seed refl) id.1 in
+    let secret = spelled_once (codes "secret") (spell_hex s.secret) (spell_hex t.secret) (from_next s) (from_next t)
     (hex_lacks 10 s.secret refl) (hex_lacks 10 t.secret refl) seed.1 in
-    let next = spelled_once (codes "next ") (spell_decimal s.next) (spell_decimal t.next) [] []
+    let next = spelled_once (codes "next") (spell_decimal s.next) (spell_decimal t.next) [] []
     (decimal_lacks 10 s.next refl (next_fits s is)) (decimal_lacks 10 t.next refl (next_fits t it)) (ap (λ (x : List ℕ). x ++ []) secret.1) in
     let two = kinds_once s.lms s.ots t.lms t.ots is.kinds it.kinds kinds.0 in
     same_key s t user.0 two.0 two.1 (hex_once s.id t.id is.id.bytes it.id.bytes id.0) (hex_once s.seed t.seed is.seed.bytes it.seed.bytes seed.0)

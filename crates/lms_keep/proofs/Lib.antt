@@ -1,5 +1,5 @@
 pub mod KeyLaws
 pub mod KindLaws
 pub mod Knowns
-pub mod OneLine
+pub mod NewKeys
 pub mod Signings

@@ -1,4 +1,3 @@
 pub mod KeyText
 pub mod Making
 pub mod Signing
-pub mod Takes

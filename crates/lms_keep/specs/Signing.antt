@@ -38,9 +38,13 @@ moved m name s = map.insert m name (key_text (advanced s))
 abbrev pub signed_by : TreeKey → ℕ → List ℕ → Signed
 signed_by key leaf message = record { key = public_key key; leaf = leaf; signature = signature_of key leaf message }
 
+-- The file is absent, or holds no key, or one of which each leaf has signed.
+abbrev pub NoneCanSign : FileMap → List ℕ → Type 0
+NoneCanSign m name = (s : KeyState) → IsKeyState s → s.next < leaves s.lms → map.get m name ≢ Some (key_text s)
+
 -- What is made of the file of a key in its ranges, for a caller who knows a public key: a signature by the leaf that is next comes
--- exactly where the file's key is that one and a leaf is left, and with it the file bears the leaf after. What comes where it isn't
--- may have moved the file's own key on.
+-- exactly where the file's key is that one and a leaf is left, and with it the file bears the leaf after. Where it is another key
+-- with a leaf left, the file may have moved on.
 abbrev pub SignsFor : FileMap → List ℕ → List ℕ → KeyState → List ℕ → Option FileMap → Result (Option (List ℕ)) Fault → Type 0
 SignsFor m name key s message new (Ok (Some signature)) =
     (public_key (tree_key s) ≡ key) × (s.next < leaves s.lms) × (new ≡ Some (moved m name s)) × (signature ≡ signature_of (tree_key s) s.next message)

@@ -5,11 +5,14 @@ ghost use Rattle.lms_keep.specs.KeyText.{AreKinds, IsKeyState, key_text, leaves}
 ghost use Rattle.lms_keep.specs.Signing.{tree_key};
 ghost use Rattle.lms_keep.specs.declared.key_state.KeyState.{KeyState};
 
-use crate::lines::{next_hash, next_id, next_kinds, next_leaf, next_user, strip};
-use crate::writing::{write_hex_line, write_kinds, write_next, write_user};
+use crate::lines::{next_hash, next_id, next_kinds, next_leaf, next_user};
+use crate::writing::write_kinds;
 use lms_tree::{LmsKind, Tree, TreeFault};
 use std::alloc::Global;
-use tg_text::{Bytes, Lines, Memory, PublicKey, UserName};
+use tg_text::{
+    Bytes, Lines, Memory, PublicKey, UserName, strip_front, write_decimal_line, write_hex_line,
+    write_text_line,
+};
 
 /// What a key file says of a device's keys. It has no `Debug`, so that no secret is printed by chance.
 #[derive(Clone, Copy)]
@@ -34,13 +37,13 @@ impl KeyState {
     pub fn read(text: &[u8]) -> Option<KeyState>
         ensures { Reads IsKeyState key_text text.now result }
     {
-        let rest = strip(text, b"team-key 1\n")?;
+        let rest = strip_front(text, b"team-key 1\n")?;
         let mut lines = Lines::new(rest);
         let user = next_user(&mut lines)?;
         let (lms, ots) = next_kinds(&mut lines)?;
         let id = next_id(&mut lines)?;
-        let seed = next_hash(&mut lines, b"seed ")?;
-        let secret = next_hash(&mut lines, b"secret ")?;
+        let seed = next_hash(&mut lines, b"seed")?;
+        let secret = next_hash(&mut lines, b"secret")?;
         let next = next_leaf(&mut lines, leaves_of(lms))?;
         if !lines.rest().is_empty() {
             return None;
@@ -63,12 +66,12 @@ impl KeyState {
     {
         let mut out = Bytes::new(alloc);
         out.append(b"team-key 1\n")?;
-        write_user(&mut out, &self.user)?;
+        write_text_line(&mut out, b"user", self.user.as_slice())?;
         write_kinds(&mut out, self.lms, self.ots)?;
-        write_hex_line(&mut out, b"id ", &self.id)?;
-        write_hex_line(&mut out, b"seed ", &self.seed)?;
-        write_hex_line(&mut out, b"secret ", &self.secret)?;
-        write_next(&mut out, self.next)?;
+        write_hex_line(&mut out, b"id", &self.id)?;
+        write_hex_line(&mut out, b"seed", &self.seed)?;
+        write_hex_line(&mut out, b"secret", &self.secret)?;
+        write_decimal_line(&mut out, b"next", u64::from(self.next))?;
         Ok(out)
     }
 

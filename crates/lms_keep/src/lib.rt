@@ -14,14 +14,12 @@ mod laws;
 mod lines;
 mod making;
 mod signing;
-#[cfg(test)]
-mod tests;
 mod turn;
 mod writing;
 
 pub use fault::SignFault;
 pub use key_state::KeyState;
 pub use known::sign_known;
-pub use laws::key_is_spelled_once;
+pub use laws::{key_is_spelled_once, new_key_has_a_file};
 pub use making::make_key;
 pub use signing::{Signed, sign_next};
