@@ -1,5 +1,6 @@
 pub mod Ascending
 pub mod Lines
+pub mod OfTeam
 pub mod Parents
 pub mod Proved
 pub mod Signed

@@ -1,21 +1,22 @@
 -- The text of a link, line by line, and that it is the text of one link.
-use Rattle.std.proofs.Common.{◌≡◌, ℕ, ◌<◌, ◌≤◌, ◌^◌, ◌==◌, Bool, true, false, ◌&&◌, List, [], ◌∷◌, ◌++◌, Option, None, Some, length, codes, flat_map, IsTrue, refl, sym, ap, ◌∙◌, subst, true≢false, append_assoc, append-nil, arith}
+use Rattle.std.proofs.Common.{◌≡◌, ℕ, ◌≤◌, ◌==◌, Bool, true, false, ◌&&◌, List, [], ◌∷◌, ◌++◌, Option, None, Some, length, codes, flat_map, refl, sym, ap, ◌∙◌, subst, true≢false, append_assoc, append-nil, arith}
 use Rattle.std.proofs.lemmas.Bool.{eqb-true}
 use Rattle.std.proofs.lemmas.List.{append_cancel_left}
 use Rattle.sha2.specs.Sha256.{sha256}
 use Rattle.team_sets.specs.Names.{Name}
+use Rattle.tg_text.specs.Limits.{most_link_bytes}
 use Rattle.tg_text.specs.Spelling.{has_byte, has_newline, spell_base64, spell_decimal, spell_hex}
 use Rattle.tg_text.proofs.FieldLaws.{base64_lacks, base64_once, decimal_lacks, decimal_once, hex_lacks, hex_once, name_lacks}
 use Rattle.acts.specs.ActText.{spell_act}
 use Rattle.acts.proofs.ActLaws.{act_lacks, act_once}
 use Rattle.team_model.specs.declared.terms.Link.{Link}
-use Rattle.link_text.specs.LinkText.{first_line, team_line, team_field, prev_line, user_line, key_line, time_line, act_line, new_line, box_line, sign_line, text, IsTeam, HasFields, KeepsRules, IsWellFormed, Reads}
+use Rattle.link_text.specs.LinkText.{first_line, team_line, team_field, prev_line, user_line, key_line, time_line, act_line, new_line, box_line, sign_line, text, IsTeam, KeepsRules, Reads, Spells}
 use Rattle.tg_text.specs.Spelling.{line_of}
 use Rattle.tg_text.specs.declared.keys.KeyId.{KeyId}
 use Rattle.tg_text.specs.declared.keys.BoxLine.{BoxLine}
 use Rattle.acts.specs.declared.entry.Act.{Act}
 use Rattle.link_text.specs.Takes.{HasNoParent}
-use Rattle.link_text.proofs.Lines.{spelled_once}
+use Rattle.tg_text.proofs.FieldLines.{spelled_once}
 use Rattle.link_text.proofs.Parents.{parents_once}
 
 -- the text from a line on
@@ -75,51 +76,17 @@ pub no_hyphen : (o : Option Name) → codes "-" ≡ team_field o → o ≡ None
 no_hyphen None e = refl
 no_hyphen (Some t) e = absurd (hyphen t e)
 
-pub fields_of : {bytes : List ℕ} {l : Link} → Reads bytes l → HasFields bytes l
-fields_of r = let w = r.well_formed in record {
-  is_text = r.is_text;
-  team = w.team;
-  parents = w.parents;
-  user = w.user;
-  key = w.key;
-  device = w.device;
-  time = w.time;
-  act = w.act;
-  no_key_lines = w.no_key_lines;
-  signature_bytes = w.signature_bytes;
-  name = r.name;
-}
+pub fields_of : {bytes : List ℕ} {l : Link} → Reads bytes l → Spells bytes l
+fields_of r = record { is_text = r.is_text; fields = r.well_formed.fields; name = r.name }
 
 pub rules_of : {bytes : List ℕ} {l : Link} → Reads bytes l → KeepsRules l
-rules_of r = let w = r.well_formed in record {
-  few_parents = w.few_parents;
-  parents_ascend = w.parents_ascend;
-  root_without_parents = w.root_without_parents;
-  root_founds = w.root_founds;
-  read_yet = w.read_yet;
-}
+rules_of r = r.well_formed.rules
 
-pub reads_of : {bytes : List ℕ} {l : Link} → HasFields bytes l → KeepsRules l → length bytes ≤ 1048576 → Reads bytes l
+pub reads_of : {bytes : List ℕ} {l : Link} → Spells bytes l → KeepsRules l → length bytes ≤ most_link_bytes → Reads bytes l
 reads_of f k short = record {
   is_text = f.is_text;
   name = f.name;
-  well_formed = record {
-    team = f.team;
-    parents = f.parents;
-    few_parents = k.few_parents;
-    parents_ascend = k.parents_ascend;
-    root_without_parents = k.root_without_parents;
-    root_founds = k.root_founds;
-    read_yet = k.read_yet;
-    user = f.user;
-    key = f.key;
-    device = f.device;
-    time = f.time;
-    act = f.act;
-    no_key_lines = f.no_key_lines;
-    signature_bytes = f.signature_bytes;
-    fits = subst (λ (t : List ℕ). length t ≤ 1048576) f.is_text short;
-  };
+  well_formed = record { fields = f.fields; rules = k; fits = subst (λ (t : List ℕ). length t ≤ most_link_bytes) f.is_text short };
 }
 
 abbrev pub link_of : Option Name → List Name → List ℕ → List ℕ → List ℕ → ℕ → Act → List KeyId → List BoxLine → List ℕ → List ℕ → Link
@@ -139,28 +106,28 @@ same_link l k team prev key user device time act news boxes signature name =
     ≡ link_of k.team k.prev k.key k.entry.user k.entry.device k.entry.time k.entry.act k.entry.lines.news k.entry.lines.boxes k.signature k.name = cc in
     same
 
-pub link_once : (bytes : List ℕ) (l k : Link) → HasFields bytes l → HasFields bytes k → l ≡ k
+pub link_once : (bytes : List ℕ) (l k : Link) → Spells bytes l → Spells bytes k → l ≡ k
 link_once bytes l k f g =
-    let team = spelled_once (codes "team ") (team_field l.team) (team_field k.team) (from_prev l) (from_prev k) (team_lacks l.team f.team) (team_lacks k.team g.team)
-    (append_cancel_left (line_of first_line) _ _ (sym (text_parts l f.no_key_lines) ∙ sym f.is_text ∙ g.is_text ∙ text_parts k g.no_key_lines)) in
-    let prev = parents_once l.prev k.prev (from_user l) (from_user k) f.parents g.parents (user_first l) (user_first k) team.1 in
-    let user = spelled_once (codes "user ") l.entry.user k.entry.user (from_key l) (from_key k) (name_lacks 10 l.entry.user refl f.user) (name_lacks 10 k.entry.user refl g.user) prev.1 in
-    let key = spelled_once (codes "key ") (spell_base64 l.key) (spell_base64 k.key) (from_time l) (from_time k) (base64_lacks 10 l.key refl refl) (base64_lacks 10 k.key refl refl) user.1 in
-    let time = spelled_once (codes "time ") (spell_decimal l.entry.time) (spell_decimal k.entry.time) (from_act l) (from_act k)
-    (decimal_lacks 10 l.entry.time refl f.time) (decimal_lacks 10 k.entry.time refl g.time) key.1 in
-    let act = spelled_once (codes "act ") (spell_act l.entry.act) (spell_act k.entry.act) (from_sign l) (from_sign k) (act_lacks l.entry.act f.act) (act_lacks k.entry.act g.act) time.1 in
-    let sign = spelled_once (codes "sign ") (spell_base64 l.signature) (spell_base64 k.signature) [] [] (base64_lacks 10 l.signature refl refl) (base64_lacks 10 k.signature refl refl)
+    let team = spelled_once (codes "team") (team_field l.team) (team_field k.team) (from_prev l) (from_prev k) (team_lacks l.team f.fields.team) (team_lacks k.team g.fields.team)
+    (append_cancel_left (line_of first_line) _ _ (sym (text_parts l f.fields.key_lines) ∙ sym f.is_text ∙ g.is_text ∙ text_parts k g.fields.key_lines)) in
+    let prev = parents_once l.prev k.prev (from_user l) (from_user k) f.fields.parents g.fields.parents (user_first l) (user_first k) team.1 in
+    let user = spelled_once (codes "user") l.entry.user k.entry.user (from_key l) (from_key k) (name_lacks 10 l.entry.user refl f.fields.user) (name_lacks 10 k.entry.user refl g.fields.user) prev.1 in
+    let key = spelled_once (codes "key") (spell_base64 l.key) (spell_base64 k.key) (from_time l) (from_time k) (base64_lacks 10 l.key refl refl) (base64_lacks 10 k.key refl refl) user.1 in
+    let time = spelled_once (codes "time") (spell_decimal l.entry.time) (spell_decimal k.entry.time) (from_act l) (from_act k)
+    (decimal_lacks 10 l.entry.time refl f.fields.time) (decimal_lacks 10 k.entry.time refl g.fields.time) key.1 in
+    let act = spelled_once (codes "act") (spell_act l.entry.act) (spell_act k.entry.act) (from_sign l) (from_sign k) (act_lacks l.entry.act f.fields.act) (act_lacks k.entry.act g.fields.act) time.1 in
+    let sign = spelled_once (codes "sign") (spell_base64 l.signature) (spell_base64 k.signature) [] [] (base64_lacks 10 l.signature refl refl) (base64_lacks 10 k.signature refl refl)
     (ap (λ (t : List ℕ). t ++ []) act.1) in
-    let same_team : l.team ≡ k.team = team_once l.team k.team f.team g.team team.0 in
+    let same_team : l.team ≡ k.team = team_once l.team k.team f.fields.team g.fields.team team.0 in
     let same_prev : l.prev ≡ k.prev = prev.0 in
     let same_user : l.entry.user ≡ k.entry.user = user.0 in
-    let same_key : l.key ≡ k.key = base64_once l.key k.key f.key.bytes g.key.bytes key.0 in
-    let same_device : l.entry.device ≡ k.entry.device = f.device ∙ ap sha256 same_key ∙ sym g.device in
-    let same_time : l.entry.time ≡ k.entry.time = decimal_once l.entry.time k.entry.time f.time g.time time.0 in
-    let same_act : l.entry.act ≡ k.entry.act = act_once l.entry.act k.entry.act f.act g.act act.0 in
-    let same_news : l.entry.lines.news ≡ k.entry.lines.news = f.no_key_lines.0 ∙ sym g.no_key_lines.0 in
-    let same_boxes : l.entry.lines.boxes ≡ k.entry.lines.boxes = f.no_key_lines.1 ∙ sym g.no_key_lines.1 in
-    let same_signature : l.signature ≡ k.signature = base64_once l.signature k.signature f.signature_bytes g.signature_bytes sign.0 in
+    let same_key : l.key ≡ k.key = base64_once l.key k.key f.fields.key.bytes g.fields.key.bytes key.0 in
+    let same_device : l.entry.device ≡ k.entry.device = f.fields.device ∙ ap sha256 same_key ∙ sym g.fields.device in
+    let same_time : l.entry.time ≡ k.entry.time = decimal_once l.entry.time k.entry.time f.fields.time g.fields.time time.0 in
+    let same_act : l.entry.act ≡ k.entry.act = act_once l.entry.act k.entry.act f.fields.act g.fields.act act.0 in
+    let same_news : l.entry.lines.news ≡ k.entry.lines.news = f.fields.key_lines.0 ∙ sym g.fields.key_lines.0 in
+    let same_boxes : l.entry.lines.boxes ≡ k.entry.lines.boxes = f.fields.key_lines.1 ∙ sym g.fields.key_lines.1 in
+    let same_signature : l.signature ≡ k.signature = base64_once l.signature k.signature f.fields.signature_bytes g.fields.signature_bytes sign.0 in
     let same_name : l.name ≡ k.name = f.name ∙ sym g.name in
     same_link l k same_team same_prev same_key same_user same_device same_time same_act same_news same_boxes same_signature same_name
 

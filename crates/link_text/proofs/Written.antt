@@ -1,4 +1,4 @@
--- Lines that were written one behind the other.
+-- Lines that were written one after the other.
 use Rattle.std.proofs.Common.{◌≡◌, ℕ, List, ◌++◌, append_assoc}
 
 pub head_lines : (start first team prev a b end : List ℕ) → a ≡ start ++ first → b ≡ a ++ team → end ≡ b ++ prev → end ≡ start ++ (first ++ (team ++ prev))

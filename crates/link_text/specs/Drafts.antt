@@ -1,19 +1,14 @@
 -- Links before they are signed.
-use Rattle.std.specs.Prelude.{◌≡◌, ℕ, List, []}
-use Rattle.tg_text.specs.declared.keys.KeyLines.{KeyLines}
+use Rattle.std.specs.Prelude.{ℕ, List, []}
 use Rattle.team_sets.specs.Names.{Name}
 use Rattle.team_model.specs.declared.terms.Link.{Link}
 use Rattle.link_text.specs.LinkText.{body}
 use Rattle.link_text.specs.declared.draft.Draft.{Draft}
 
--- the link that a draft becomes, with its signature and the name that its text then has
+-- The link that a draft becomes, with its signature and the name that its text then has.
 abbrev pub link_of : Draft → List ℕ → Name → Link
 link_of d signature name = record { team = d.team; prev = d.prev; key = d.key; entry = d.entry; signature = signature; name = name }
 
--- what is signed, which neither the signature nor the name is part of
+-- What is signed, which neither the signature nor the name is part of.
 abbrev pub draft_body : Draft → List ℕ
 draft_body d = body (link_of d [] [])
-
--- no key line is written yet
-abbrev pub HasNoKeyLines : KeyLines → Type 0
-HasNoKeyLines lines = (lines.news ≡ []) × (lines.boxes ≡ [])

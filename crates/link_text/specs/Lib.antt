@@ -4,3 +4,4 @@ pub mod LinkText
 pub mod ReadYet
 pub mod Takes
 pub mod TeamFile
+pub mod TeamReading

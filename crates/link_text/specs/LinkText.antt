@@ -5,19 +5,21 @@ use Rattle.std.specs.Option.{option_map_or}
 use Rattle.sha2.specs.Sha256.{sha256}
 use Rattle.lms_tree.specs.Verifying.{verifies}
 use Rattle.team_sets.specs.Names.{Name, name_lt}
-use Rattle.tg_text.specs.Spelling.{spell_decimal, spell_hex, spell_base64, spell_key_id, line_of, is_user_name, AreBytes, IsHash, IsPublicKey}
+use Rattle.tg_text.specs.KeySpelling.{spell_key_id}
+use Rattle.tg_text.specs.Limits.{most_link_bytes}
+use Rattle.tg_text.specs.Spelling.{spell_decimal, spell_hex, spell_base64, line_of, is_user_name, AreBytes, IsHash, IsPublicKey}
 use Rattle.tg_text.specs.declared.keys.KeyId.{KeyId}
 use Rattle.tg_text.specs.declared.keys.BoxLine.{BoxLine}
 use Rattle.acts.specs.ActText.{act_words, IsActInRange, IsFound}
 use Rattle.acts.specs.declared.entry.Act.{Act}
 use Rattle.team_model.specs.declared.terms.Link.{Link}
-use Rattle.link_text.specs.ReadYet.{is_read_yet}
+use Rattle.link_text.specs.ReadYet.{AreKeyLines, is_read_yet}
 
--- the lines of a link, each a list of fields
+-- The lines of a link, each a list of fields.
 abbrev pub first_line : List (List ℕ)
 first_line = codes "team-link" ∷ codes "1" ∷ []
 
--- the team's name, or `-` where a link names none
+-- The team's name, or `-` where a link names none.
 abbrev pub team_field : Option Name → List ℕ
 team_field o = option_map_or (λ t. spell_hex t) o (codes "-")
 
@@ -48,7 +50,7 @@ box_line b = line_of (codes "box" ∷ spell_key_id b.to ∷ spell_key_id b.of �
 abbrev pub sign_line : List ℕ → List ℕ
 sign_line s = line_of (codes "sign" ∷ spell_base64 s ∷ [])
 
--- all before the line of the signature: what is signed
+-- All before the line of the signature: what is signed.
 abbrev pub body : Link → List ℕ
 body l =
     line_of first_line ++ team_line l.team ++ flat_map prev_line l.prev ++ user_line l.entry.user ++ key_line l.key
@@ -57,7 +59,7 @@ body l =
 abbrev pub text : Link → List ℕ
 text l = body l ++ sign_line l.signature
 
--- each name is before the next
+-- Each name is before the next.
 abbrev pub Ascends : List Name → Type 0
 Ascends [] = Unit {0}
 Ascends (n ∷ []) = Unit {0}
@@ -66,27 +68,8 @@ Ascends (n ∷ m ∷ ms) = IsTrue (name_lt n m) × Ascends (m ∷ ms)
 abbrev pub IsTeam : Option Name → Type 0
 IsTeam o = MatchOption o (Unit {0}) IsHash
 
--- a link whose fields are in their ranges. The ranges of bytes and numbers stand here too, since a link of a law is any value
-pub record IsWellFormed (l : Link) : Type 0 where
-  pub team : IsTeam l.team
-  pub parents : AllByRecursion IsHash l.prev
-  pub few_parents : length l.prev ≤ 64
-  pub parents_ascend : Ascends l.prev
-  pub root_without_parents : (l.prev ≡ []) ↔ IsNone l.team
-  pub root_founds : (l.prev ≡ []) ↔ IsFound l.entry.act
-  pub read_yet : IsTrue (is_read_yet l.entry.act)
-  pub user : IsTrue (is_user_name l.entry.user)
-  pub key : IsPublicKey l.key
-  pub device : l.entry.device ≡ sha256 l.key
-  pub time : l.entry.time < 2 ^ 64
-  pub act : IsActInRange l.entry.act
-  pub no_key_lines : (l.entry.lines.news ≡ []) × (l.entry.lines.boxes ≡ [])
-  pub signature_bytes : AreBytes l.signature
-  pub fits : length (text l) ≤ 1048576
-
--- each field of the link stands in the bytes, whatever the rules on fields together say of them
-pub record HasFields (bytes : List ℕ) (l : Link) : Type 0 where
-  pub is_text : bytes ≡ text l
+-- Each field of the link is in its range. The ranges of bytes and numbers stand here too, since a link of a law is any value.
+pub record HasFields (l : Link) : Type 0 where
   pub team : IsTeam l.team
   pub parents : AllByRecursion IsHash l.prev
   pub user : IsTrue (is_user_name l.entry.user)
@@ -94,11 +77,10 @@ pub record HasFields (bytes : List ℕ) (l : Link) : Type 0 where
   pub device : l.entry.device ≡ sha256 l.key
   pub time : l.entry.time < 2 ^ 64
   pub act : IsActInRange l.entry.act
-  pub no_key_lines : (l.entry.lines.news ≡ []) × (l.entry.lines.boxes ≡ [])
+  pub key_lines : AreKeyLines l.entry.lines
   pub signature_bytes : AreBytes l.signature
-  pub name : l.name ≡ sha256 bytes
 
--- the rules on fields together
+-- The link keeps the rules on its fields together, and its act is read yet.
 pub record KeepsRules (l : Link) : Type 0 where
   pub few_parents : length l.prev ≤ 64
   pub parents_ascend : Ascends l.prev
@@ -106,31 +88,43 @@ pub record KeepsRules (l : Link) : Type 0 where
   pub root_founds : (l.prev ≡ []) ↔ IsFound l.entry.act
   pub read_yet : IsTrue (is_read_yet l.entry.act)
 
--- the bytes are the text of the link, and its name is their SHA-256
+-- The fields of the link are in their ranges, it keeps the rules on them, and its text isn't too long.
+pub record IsWellFormed (l : Link) : Type 0 where
+  pub fields : HasFields l
+  pub rules : KeepsRules l
+  pub fits : length (text l) ≤ most_link_bytes
+
+-- The bytes spell the link, whatever the rules on fields together say of it.
+pub record Spells (bytes : List ℕ) (l : Link) : Type 0 where
+  pub is_text : bytes ≡ text l
+  pub fields : HasFields l
+  pub name : l.name ≡ sha256 bytes
+
+-- The bytes are the text of the link, which is well-formed, and its name is their SHA-256.
 pub record Reads (bytes : List ℕ) (l : Link) : Type 0 where
   pub is_text : bytes ≡ text l
   pub well_formed : IsWellFormed l
   pub name : l.name ≡ sha256 bytes
 
--- whether the signature verifies over the body under the author's key. What else a link has to prove joins it here
+-- Whether the signature verifies over the body under the author's key. What else a link has to prove joins it here.
 abbrev pub proves : Link → Bool
 proves l = verifies l.key (body l) l.signature
 
--- the bytes are the link: they are its text, and it proves what it says
+-- The bytes are the link: they are its text, and it proves what it says.
 pub record IsLink (bytes : List ℕ) (l : Link) : Type 0 where
   pub reads : Reads bytes l
   pub proved : proves l ≡ true
 
--- the link is of the team: it names it, or it is the root whose name it is
+-- The link is of the team: it names it, or it is the root whose name it is.
 abbrev pub IsOfTeam : Name → Link → Type 0
 IsOfTeam t l = MatchOption l.team (l.name ≡ t) (λ named. named ≡ t)
 
--- the bytes are valid for the team: they are a link of it
+-- The bytes are valid for the team: they are a link of it.
 pub record IsValid (t : Name) (bytes : List ℕ) (l : Link) : Type 0 where
   pub reads : Reads bytes l
   pub of_team : IsOfTeam t l
   pub proved : proves l ≡ true
 
--- a text has one link: each well-formed link has a spelling of its own
+-- A text has one link: each well-formed link has a spelling of its own.
 abbrev pub LinkIsSpelledOnce : Type 0
 LinkIsSpelledOnce = (bytes : List ℕ) (l k : Link) → Reads bytes l → Reads bytes k → l ≡ k

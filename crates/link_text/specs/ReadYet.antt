@@ -1,13 +1,19 @@
--- Which acts a link may have so far. Others are right texts of acts, and no link has one.
+-- What a link may have so far: of the acts some, and no key lines. Others are right texts, and no link has one.
 --
 -- To let links have a further act, a clause here and an arm in `rules` say so. Before that `team_model` gets its row, its effect,
 -- and what it strikes and brings in, with the code of `replica` that the contracts tie to them. The act's text costs nothing.
-use Rattle.std.specs.Prelude.{Bool, true, false}
+use Rattle.std.specs.Prelude.{◌≡◌, Bool, true, false, []}
+use Rattle.tg_text.specs.declared.keys.KeyLines.{KeyLines}
 use Rattle.acts.specs.declared.entry.Act.{Act}
 use Rattle.acts.specs.declared.entry.Act.TheVariants.{Found, Title, Join}
 
+-- These acts are read yet.
 abbrev pub is_read_yet : Act → Bool
 is_read_yet (Found seal title) = true
 is_read_yet (Title title) = true
 is_read_yet Join = true
 is_read_yet _ = false
+
+-- The lines of keys that are read yet are none.
+abbrev pub AreKeyLines : KeyLines → Type 0
+AreKeyLines lines = (lines.news ≡ []) × (lines.boxes ≡ [])

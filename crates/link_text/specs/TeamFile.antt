@@ -1,6 +1,7 @@
 -- The text of a team file: the header, and a frame for each link in ascending order of names.
 use Rattle.std.specs.List.{AllByRecursion}
 use Rattle.std.specs.Prelude.{◌≡◌, ℕ, ◌≤◌, List, [], ◌∷◌, ◌++◌, length, codes, flat_map}
+use Rattle.tg_text.specs.Limits.{most_file_bytes, most_links}
 use Rattle.tg_text.specs.Spelling.{spell_decimal, spell_hex, line_of, IsHash}
 use Rattle.team_sets.specs.Names.{Name, name_lt, ascending}
 use Rattle.team_sets.specs.Members.{HaveSameMembers}
@@ -21,20 +22,20 @@ by_name links = ascending (λ a b. name_lt a.name b.name) links
 abbrev pub file_text : Name → List Link → List ℕ
 file_text t links = header t ++ flat_map (λ l. frame (text l)) (by_name links)
 
--- a set of valid links of one team within the limits: none stands twice, and no two have one name
+-- A set of valid links of one team within the limits: none stands twice, and no two have one name.
 pub record IsHeld (t : Name) (links : List Link) : Type 0 where
   pub team : IsHash t
   pub valid : AllByRecursion (λ l. IsValid t (text l) l) links
   pub set : IsSet name_of links
-  pub few : length links ≤ 16384
-  pub short : length (file_text t links) ≤ 268435456
+  pub few : length links ≤ most_links
+  pub short : length (file_text t links) ≤ most_file_bytes
 
--- the bytes are the file of this held set
+-- The bytes are the file of this held set.
 pub record IsFileOf (bytes : List ℕ) (t : Name) (links : List Link) : Type 0 where
   pub held : IsHeld t links
   pub is_text : bytes ≡ file_text t links
 
--- the file depends on which links are in the set alone
+-- The file depends on which links are in the set alone.
 abbrev pub FileIsOfSet : Type 0
 FileIsOfSet = (t : Name) (links others : List Link) → IsSet name_of links → IsSet name_of others → HaveSameMembers links others
     → file_text t links ≡ file_text t others

@@ -1,7 +1,8 @@
 ghost use Rattle.std.specs.Prelude.{◌≡◌};
-ghost use Rattle.link_text.specs.Faults.{as_link_fault, as_text_fault};
+ghost use Rattle.link_text.specs.Faults.{as_link_fault, as_team_fault, as_text_fault};
 ghost use Rattle.link_text.specs.declared.fault.LineFault.TheVariants.{Memory as no_memory};
 ghost use Rattle.link_text.specs.declared.fault.LinkFault.TheVariants as of_link;
+ghost use Rattle.link_text.specs.declared.fault.TeamLinkFault.TheVariants as of_team;
 
 use tg_text::Memory;
 use thiserror::Error;
@@ -9,7 +10,7 @@ use thiserror::Error;
 /// Why a text isn't read as a link.
 #[derive(Clone, Copy, Debug, PartialEq, Eq, Error)]
 pub enum TextFault {
-    /// More than 1,048,576 bytes.
+    /// More than `MOST_LINK_BYTES` bytes.
     #[error("the text is too long")]
     TooLong,
     /// No link has this text.
@@ -22,13 +23,32 @@ pub enum TextFault {
 /// Why a text isn't a link.
 #[derive(Clone, Copy, Debug, PartialEq, Eq, Error)]
 pub enum LinkFault {
-    /// More than 1,048,576 bytes.
+    /// More than `MOST_LINK_BYTES` bytes.
     #[error("the text is too long")]
     TooLong,
     /// No link has this text.
     #[error("the text is no link's")]
     BadText,
     /// The text is a link's, and its signature doesn't verify under its key.
+    #[error("the signature doesn't verify")]
+    BadSignature,
+    #[error("out of memory")]
+    Memory,
+}
+
+/// Why a text isn't a link of a team.
+#[derive(Clone, Copy, Debug, PartialEq, Eq, Error)]
+pub enum TeamLinkFault {
+    /// More than `MOST_LINK_BYTES` bytes.
+    #[error("the text is too long")]
+    TooLong,
+    /// No link has this text.
+    #[error("the text is no link's")]
+    BadText,
+    /// The text is that of a link of another team. Its signature isn't verified.
+    #[error("the link is of another team")]
+    OtherTeam,
+    /// The text is that of a link of the team, and its signature doesn't verify under its key.
     #[error("the signature doesn't verify")]
     BadSignature,
     #[error("out of memory")]
@@ -78,5 +98,24 @@ impl From<Memory> for LinkFault {
 
     fn from(_: Memory) -> Self {
         LinkFault::Memory
+    }
+}
+
+impl From<LineFault> for TeamLinkFault {
+    ghost from_gives = { λ fault e. e ≡ as_team_fault fault };
+
+    fn from(fault: LineFault) -> Self {
+        match fault {
+            LineFault::BadText => TeamLinkFault::BadText,
+            LineFault::Memory => TeamLinkFault::Memory,
+        }
+    }
+}
+
+impl From<Memory> for TeamLinkFault {
+    ghost from_gives = { λ _ e. e ≡ of_team.Memory };
+
+    fn from(_: Memory) -> Self {
+        TeamLinkFault::Memory
     }
 }

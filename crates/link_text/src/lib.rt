@@ -2,7 +2,8 @@
 //!
 //! `specs/LinkText.antt` says how a link is spelled, which links are well-formed, whose signature verifies, and of which team a
 //! link is. What `read_text` gives is a well-formed link with this text, and every such link is given; `read_link` gives those
-//! that verify. All who take links from outside stand on them. An author signs what `body_of` gives, and `finish` makes the text.
+//! that verify, and `read_of_team` those of one team: all who take links from outside stand on it. An author signs what `body_of`
+//! gives, and `finish` makes the text.
 //!
 //! A new act costs a clause in `specs/ReadYet.antt`, which says what links may have so far, and an arm in `rules`; `acts`
 //! reads and spells it. A new kind of line costs a reader of two lines in `next`, whose proof is one call of `takes`, and a
@@ -22,16 +23,11 @@ mod rules;
 mod writing;
 
 pub use draft::Draft;
-pub use fault::{LinkFault, TextFault};
+pub use fault::{LinkFault, TeamLinkFault, TextFault};
 pub use laws::{file_is_of_set, link_is_spelled_once};
 pub use naming::name_of;
-pub use of_team::is_of_team;
+pub use of_team::{is_of_team, read_named_of_team, read_of_team};
 pub use proving::{proves, read_link};
 pub use reading::read_text;
 pub use team_model::Link;
 pub use writing::{body_of, finish, write_link};
-
-#[cfg(test)]
-mod proving_tests;
-#[cfg(test)]
-mod tests;

@@ -1,5 +1,5 @@
 //! The lines of a link, one reader each. A reader takes its line off the front of the text, and leaves the rest.
-ghost use Rattle.std.specs.Prelude.{◌≡◌, ◌≢◌, ◌<◌, ◌^◌, ◌++◌, ◌∷◌, ℕ, List, false, IsTrue, IfOk, IfErr, IfSome, IfNone, MatchOption, flat_map};
+ghost use Rattle.std.specs.Prelude.{◌≡◌, ◌≢◌, ◌<◌, ◌^◌, ◌++◌, ◌∷◌, ℕ, List, false, IsTrue, IfOk, IfErr, flat_map};
 ghost use Rattle.std.specs.List.{AllByRecursion};
 ghost use Rattle.tg_text.specs.Reading.{Reads};
 ghost use Rattle.tg_text.specs.Spelling.{AreBytes, IsHash, IsPublicKey, has_newline, is_user_name};
@@ -14,38 +14,18 @@ use tg_text::{
     Bytes, Items, Lines, LinkName, PublicKey, UserName, read_base64, read_decimal, read_hex32,
 };
 
-// What stands behind the prefix.
-pub(crate) fn strip<'a>(text: &'a [u8], prefix: &[u8]) -> Option<&'a [u8]>
-    ensures { MatchOption result ((rest : List ℕ) → text.now ≢ prefix.now ++ rest) (λ rest. text.now ≡ prefix.now ++ rest.now) }
-{
-    text.strip_prefix(prefix)
-}
-
-// What stands behind the word in the next line. A text that doesn't begin with it, or has no further line, stays.
-fn take_field<'a>(lines: &mut Lines<'a>, word: &[u8]) -> Option<&'a [u8]>
-    ensures some { IfSome result (λ field. (has_newline field.now ≡ false) × (lines.old ≡ word.now ++ (field.now ++ 10 ∷ lines.new))) }
-    ensures stays { IfNone result (lines.new ≡ lines.old) }
-    ensures none { IfNone result ((field rest : List ℕ) → lines.old ≢ word.now ++ (field ++ 10 ∷ rest)) }
-{
-    let rest = strip(lines.rest(), word)?;
-    let mut ahead = Lines::new(rest);
-    let field = ahead.next_line()?;
-    *lines = ahead;
-    Some(field)
-}
-
-// The same where another line is a fault.
+// The field of the next line, which begins with the word. Another line is a fault.
 fn next_field<'a>(lines: &mut Lines<'a>, word: &[u8]) -> Result<&'a [u8], LineFault>
-    ensures ok { IfOk result (λ field. (has_newline field.now ≡ false) × (lines.old ≡ word.now ++ (field.now ++ 10 ∷ lines.new))) }
-    ensures err { IfErr result (λ _. (field rest : List ℕ) → lines.old ≢ word.now ++ (field ++ 10 ∷ rest)) }
+    ensures ok { IfOk result (λ field. (has_newline field.now ≡ false) × (lines.old ≡ word.now ++ 32 ∷ (field.now ++ 10 ∷ lines.new))) }
+    ensures err { IfErr result (λ _. (field rest : List ℕ) → lines.old ≢ word.now ++ 32 ∷ (field ++ 10 ∷ rest)) }
 {
-    take_field(lines, word).ok_or(LineFault::BadText)
+    lines.take_field(word).ok_or(LineFault::BadText)
 }
 
 pub(crate) fn next_team(lines: &mut Lines) -> Result<Option<LinkName>, LineFault>
     ensures { Takes IsTeam team_line lines.old lines.new result }
 {
-    let field = next_field(lines, b"team ")?;
+    let field = next_field(lines, b"team")?;
     read_team(field).ok_or(LineFault::BadText)
 }
 
@@ -67,7 +47,7 @@ pub(crate) fn next_parents(alloc: Global, lines: &mut Lines) -> Result<Items<Lin
 {
     let mut parents = Items::new(alloc);
     'each: loop {
-        match take_field(lines, b"prev ") {
+        match lines.take_field(b"prev") {
             Some(field) => {
                 let name = read_hex32(field).ok_or(LineFault::BadText)?;
                 parents.push(LinkName(name))?;
@@ -80,34 +60,34 @@ pub(crate) fn next_parents(alloc: Global, lines: &mut Lines) -> Result<Items<Lin
 pub(crate) fn next_user(lines: &mut Lines) -> Result<UserName, LineFault>
     ensures { Takes (λ user. IsTrue (is_user_name user)) user_line lines.old lines.new result }
 {
-    let field = next_field(lines, b"user ")?;
+    let field = next_field(lines, b"user")?;
     UserName::read(field).ok_or(LineFault::BadText)
 }
 
 pub(crate) fn next_key(lines: &mut Lines) -> Result<PublicKey, LineFault>
     ensures { Takes IsPublicKey key_line lines.old lines.new result }
 {
-    let field = next_field(lines, b"key ")?;
+    let field = next_field(lines, b"key")?;
     PublicKey::read(field).ok_or(LineFault::BadText)
 }
 
 pub(crate) fn next_time(lines: &mut Lines) -> Result<u64, LineFault>
     ensures { Takes (λ time. time < 2 ^ 64) time_line lines.old lines.new result }
 {
-    let field = next_field(lines, b"time ")?;
+    let field = next_field(lines, b"time")?;
     read_decimal(field).ok_or(LineFault::BadText)
 }
 
 pub(crate) fn next_act(alloc: Global, lines: &mut Lines) -> Result<Act, LineFault>
     ensures { Takes IsActInRange act_line lines.old lines.new result }
 {
-    let field = next_field(lines, b"act ")?;
+    let field = next_field(lines, b"act")?;
     Act::read(alloc, field)?.ok_or(LineFault::BadText)
 }
 
 pub(crate) fn next_signature(alloc: Global, lines: &mut Lines) -> Result<Bytes, LineFault>
     ensures { Takes AreBytes sign_line lines.old lines.new result }
 {
-    let field = next_field(lines, b"sign ")?;
+    let field = next_field(lines, b"sign")?;
     read_base64(alloc, field)?.ok_or(LineFault::BadText)
 }

@@ -1,8 +1,9 @@
 //! Whether a link proves what it says.
+ghost use Rattle.tg_text.specs.Limits.{most_link_bytes};
+ghost use Rattle.tg_text.specs.Reading.{Gives, IsExact};
 ghost use Rattle.std.specs.Prelude.{◌≡◌, ◌<◌, ◌↔◌, length, IfOk, Err};
-ghost use Rattle.link_text.specs.Faults.{GivesLink, IsBadText, IsExact, IsUnproved};
+ghost use Rattle.link_text.specs.Faults.{IsBadText, IsUnproved};
 ghost use Rattle.link_text.specs.LinkText.{IsLink, Reads, body, proves};
-ghost use Rattle.link_text.specs.declared.fault.LinkFault.TheVariants.{TooLong, BadText, BadSignature};
 ghost use Rattle.team_model.specs.declared.terms.Link.{Link};
 
 use crate::fault::LinkFault;
@@ -18,10 +19,10 @@ const AROUND: usize = 6;
 /// The link that a text is, whose signature verifies. The signature is verified once, in place.
 pub fn read_link(alloc: Global, bytes: &[u8]) -> Result<Link, LinkFault>
     ensures found { IfOk result (λ l. IsLink bytes.now l) }
-    ensures only { (l : Link) → IsLink bytes.now l → GivesLink l result }
-    ensures too_long { (result ≡ Err TooLong) ↔ (1048576 < length bytes.now) }
-    ensures bad_text { IsExact BadText (IsBadText bytes.now) result }
-    ensures bad_signature { IsExact BadSignature (IsUnproved bytes.now) result }
+    ensures only { (l : Link) → IsLink bytes.now l → Gives LinkFault.Memory l result }
+    ensures too_long { (result ≡ Err LinkFault.TooLong) ↔ (most_link_bytes < length bytes.now) }
+    ensures bad_text { IsExact LinkFault.Memory LinkFault.BadText (IsBadText bytes.now) result }
+    ensures bad_signature { IsExact LinkFault.Memory LinkFault.BadSignature (IsUnproved bytes.now) result }
 {
     let link = read_text(alloc, bytes)?;
     if proves(alloc, &link, bytes)? {

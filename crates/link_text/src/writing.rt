@@ -1,7 +1,8 @@
-//! Writing links: the body, and the line of the signature behind it.
+//! Writing links: the body, and the line of the signature after it.
 ghost use Rattle.std.specs.Prelude.{◌≡◌, ◌++◌, flat_map, IfOk, OnOk};
-ghost use Rattle.link_text.specs.Drafts.{HasNoKeyLines, draft_body};
+ghost use Rattle.link_text.specs.Drafts.{draft_body};
 ghost use Rattle.link_text.specs.LinkText.{first_line, team_line, prev_line, user_line, key_line, time_line, act_line, sign_line, text};
+ghost use Rattle.link_text.specs.ReadYet.{AreKeyLines};
 ghost use Rattle.tg_text.specs.Spelling.{line_of};
 
 use crate::draft::Draft;
@@ -9,12 +10,13 @@ use acts::{Act, Entry};
 use std::alloc::Global;
 use team_model::Link;
 use tg_text::{
-    Bytes, LinkName, Memory, PublicKey, UserName, write_base64, write_decimal, write_hex,
+    Bytes, LinkName, Memory, PublicKey, write_base64_line, write_decimal_line, write_hex_line,
+    write_text_line,
 };
 
 /// The body of a link that is to be signed, which is what its signature is over.
 pub fn body_of(alloc: Global, draft: &Draft) -> Result<Bytes, Memory>
-    requires { HasNoKeyLines draft.now.entry.lines }
+    requires { AreKeyLines draft.now.entry.lines }
     ensures { IfOk result (λ bytes. bytes ≡ draft_body draft.now) }
 {
     let mut out = Bytes::new(alloc);
@@ -28,19 +30,19 @@ pub fn finish(alloc: Global, body: &[u8], signature: &[u8]) -> Result<Bytes, Mem
     ensures { IfOk result (λ bytes. bytes ≡ body.now ++ sign_line signature.now) }
 {
     let mut out = Bytes::from_slice(alloc, body)?;
-    write_signature(&mut out, signature)?;
+    write_base64_line(&mut out, b"sign", signature)?;
     Ok(out)
 }
 
 /// The text of a link.
 pub fn write_link(alloc: Global, link: &Link) -> Result<Bytes, Memory>
-    requires { HasNoKeyLines link.now.entry.lines }
+    requires { AreKeyLines link.now.entry.lines }
     ensures { IfOk result (λ bytes. bytes ≡ text link.now) }
 {
     let mut out = Bytes::new(alloc);
     write_head(&mut out, &link.team, link.prev.as_slice())?;
     write_entry(&mut out, &link.key, &link.entry)?;
-    write_signature(&mut out, link.signature.as_slice())?;
+    write_base64_line(&mut out, b"sign", link.signature.as_slice())?;
     Ok(out)
 }
 
@@ -56,63 +58,29 @@ fn write_head(out: &mut Bytes, team: &Option<LinkName>, prev: &[LinkName]) -> Re
 fn write_team(out: &mut Bytes, team: &Option<LinkName>) -> Result<(), Memory>
     ensures { OnOk result (out.new ≡ out.old ++ team_line team.now) }
 {
-    out.append(b"team ")?;
     match team {
-        Some(name) => write_hex(out, name.as_slice())?,
-        None => out.append(b"-")?,
+        Some(name) => write_hex_line(out, b"team", name.as_slice()),
+        None => write_text_line(out, b"team", b"-"),
     }
-    out.append(b"\n")
 }
 
 fn write_parents(out: &mut Bytes, prev: &[LinkName]) -> Result<(), Memory>
     ensures { OnOk result (out.new ≡ out.old ++ flat_map prev_line prev.now) }
 {
     for name in prev {
-        write_parent(out, name)?;
+        write_hex_line(out, b"prev", name.as_slice())?;
     }
     Ok(())
-}
-
-fn write_parent(out: &mut Bytes, name: &LinkName) -> Result<(), Memory>
-    ensures { OnOk result (out.new ≡ out.old ++ prev_line name.now) }
-{
-    out.append(b"prev ")?;
-    write_hex(out, name.as_slice())?;
-    out.append(b"\n")
 }
 
 // The lines from that of the user up to the signature.
 fn write_entry(out: &mut Bytes, key: &PublicKey, entry: &Entry) -> Result<(), Memory>
     ensures { OnOk result (out.new ≡ out.old ++ (user_line entry.now.user ++ (key_line key.now ++ (time_line entry.now.time ++ act_line entry.now.act)))) }
 {
-    write_user(out, &entry.user)?;
-    write_key(out, key)?;
-    write_time(out, entry.time)?;
+    write_text_line(out, b"user", entry.user.as_slice())?;
+    write_base64_line(out, b"key", key.as_slice())?;
+    write_decimal_line(out, b"time", entry.time)?;
     write_act(out, &entry.act)
-}
-
-fn write_user(out: &mut Bytes, user: &UserName) -> Result<(), Memory>
-    ensures { OnOk result (out.new ≡ out.old ++ user_line user.now) }
-{
-    out.append(b"user ")?;
-    out.append(user.as_slice())?;
-    out.append(b"\n")
-}
-
-fn write_key(out: &mut Bytes, key: &PublicKey) -> Result<(), Memory>
-    ensures { OnOk result (out.new ≡ out.old ++ key_line key.now) }
-{
-    out.append(b"key ")?;
-    write_base64(out, key.as_slice())?;
-    out.append(b"\n")
-}
-
-fn write_time(out: &mut Bytes, time: u64) -> Result<(), Memory>
-    ensures { OnOk result (out.new ≡ out.old ++ time_line time) }
-{
-    out.append(b"time ")?;
-    write_decimal(out, time)?;
-    out.append(b"\n")
 }
 
 fn write_act(out: &mut Bytes, act: &Act) -> Result<(), Memory>
@@ -120,13 +88,5 @@ fn write_act(out: &mut Bytes, act: &Act) -> Result<(), Memory>
 {
     out.append(b"act ")?;
     act.write(out)?;
-    out.append(b"\n")
-}
-
-fn write_signature(out: &mut Bytes, signature: &[u8]) -> Result<(), Memory>
-    ensures { OnOk result (out.new ≡ out.old ++ sign_line signature.now) }
-{
-    out.append(b"sign ")?;
-    write_base64(out, signature)?;
     out.append(b"\n")
 }

@@ -1,9 +1,10 @@
 use Rattle.std.proofs.Common.{ℕ, List, IsTrue, codes, refl}
 use Rattle.tg_text.specs.Spelling.{is_user_name}
 use Rattle.tg_text.proofs.FieldLaws.{name_lacks}
-use Rattle.link_text.proofs.Lines.{reads_itself, takes}
+use Rattle.tg_text.proofs.FieldLines.{reads_itself}
+use Rattle.link_text.proofs.Lines.{takes}
 use Rattle.link_text.proofs.next.next_user.Goals as goal
 
 pub returns : goal.returns
-returns c = rw c.ok_or.ensures.value (takes (λ (user : List ℕ). IsTrue (is_user_name user)) (λ (user : List ℕ). user) (codes "user ") c.in_ok-field.field.now c.args.lines.now c.next_field.new.lines c.read.result
+returns c = rw c.ok_or.ensures.value (takes (λ (user : List ℕ). IsTrue (is_user_name user)) (λ (user : List ℕ). user) (codes "user") c.in_ok-field.field.now c.args.lines.now c.next_field.new.lines c.read.result
     (λ user is. name_lacks 10 user refl is) c.in_ok-field.ensures.ok (reads_itself (λ (user : List ℕ). IsTrue (is_user_name user)) c.in_ok-field.field.now c.read.result c.read.ensures.exact c.read.ensures.found))

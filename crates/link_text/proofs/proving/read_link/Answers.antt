@@ -9,4 +9,5 @@ returns-then-branch-clause-bad_signature c = record {
 }
 
 pub returns-else-branch-clause-only : goal.returns-else-branch-clause-only
-returns-else-branch-clause-only c = λ l is. one_verdict c.args.bytes.now l c.in_ok-link.link is.reads c.in_ok-link.ensures.found is.proved (sym c.in_ok-proves.ensures ∙ c.if-branch.false)
+returns-else-branch-clause-only c = λ l is.
+    absurd (one_verdict c.args.bytes.now l c.in_ok-link.link is.reads c.in_ok-link.ensures.found is.proved (sym c.in_ok-proves.ensures ∙ c.if-branch.false))

@@ -1,4 +1,4 @@
-use Rattle.std.proofs.Common.{codes, flat_map}
+use Rattle.std.proofs.Common.{flat_map}
 use Rattle.std.proofs.lemmas.Result.{on_ok_weaker}
 use Rattle.tg_text.specs.Spelling.{line_of}
 use Rattle.link_text.specs.LinkText.{first_line, team_line, prev_line}
