@@ -1,12 +1,11 @@
 -- What a graph knows of its links.
-use Rattle.std.proofs.Common.{◌≡◌, ◌+◌, ◌-◌, ◌<◌, ◌≤◌, ℕ, zero, suc, true, false, List, [], ◌∷◌, ◌++◌, Option, Some, None, refl, sym, ◌∙◌, ap, subst, length, length-append, map, take, slice_get, position, arith}
+use Rattle.std.proofs.Common.{◌≡◌, ◌+◌, ◌-◌, ◌<◌, ◌≤◌, ℕ, zero, suc, List, [], ◌∷◌, ◌++◌, Option, Some, None, refl, sym, ◌∙◌, ap, subst, length, length-append, map, slice_get, position, arith}
 use Rattle.std.specs.List.{AllByRecursion}
 use Rattle.std.specs.Map.{keys_of}
-use Rattle.std.proofs.lemmas.List.{length-map}
 use Rattle.std.proofs.lemmas.List.Quantifiers.{position-Some}
 use Rattle.sha2.specs.Sha256.{sha256}
-use Rattle.team_sets.specs.Names.{Name, same_name, has_name}
-use Rattle.team_sets.specs.Members.{IsIn}
+use Rattle.tg_text.specs.Limits.{most_file_bytes, most_link_bytes, most_links}
+use Rattle.team_sets.specs.Names.{Name, same_name}
 use Rattle.team_sets.specs.Order.{names}
 use Rattle.team_sets.specs.OrderLaws.{IsSet}
 use Rattle.team_sets.proofs.Ancestors.{in_at, order_first}
@@ -17,7 +16,6 @@ use Rattle.team_model.specs.Judging.{name_of, prev_of, order_of}
 use Rattle.team_model.specs.declared.terms.Link.{Link}
 use Rattle.link_text.specs.LinkText.{text, IsValid}
 use Rattle.link_text.specs.TeamFile.{file_text, header}
-use Rattle.link_graph.specs.Graphs.{IsGraph}
 use Rattle.link_graph.specs.Heads.{heads_after, heads_of}
 use Rattle.link_graph.specs.Held.{Held, arrived_of}
 use Rattle.link_graph.specs.Sizes.{frame_length}
@@ -45,7 +43,7 @@ order_is links set = (arrived_ordered name_of prev_of links set).same
 pub connected_count : (web : Web) → IsWeb web → length web.connected ≡ length (arrived_of web.holding)
 connected_count web is = count_of web.holding (arrived_of web.holding) web.connected (length web.connected) is.connected.entries is.connected.linked refl
 
-pub connected_few : (web : Web) → IsWeb web → length web.connected ≤ 16384
+pub connected_few : (web : Web) → IsWeb web → length web.connected ≤ most_links
 connected_few web is = let count = connected_count web is in let within = arrived_within web.holding is.set in let few = is.few in omega (arith, count, within, few)
 
 pub position_few : (n : Name) (ns : List Name) (i : ℕ) → position (same_name n) ns ≡ Some i → i < length ns
@@ -73,7 +71,7 @@ all_front P (y ∷ ys) x h = (h.0, all_front P ys x h.1)
 module _ (team : Name) (links : List Link) (size : ℕ) (some : 0 < length links) (valid : AllByRecursion (λ l. IsValid team (text l) l) links)
     (at : slice_get (map (λ (l : Link). length (text l)) links) (length links - 1) ≡ Some size) where
   -- its text isn't too long
-  pub last_short : size ≤ 1048576
+  pub last_short : size ≤ most_link_bytes
   last_short =
       let x = last_valid team links some valid in
       let is : size ≡ length (text x.0) = sizes_get links (length links - 1) x.0 size x.3 at in
@@ -110,11 +108,11 @@ module _ (old : Held) (l : Link) (bytes more size : ℕ) (is : bytes ≡ length 
       let same : more ≡ frame_length (length (text l)) = frame ∙ ap frame_length long in
       omega (arith, e, is, same)
 
-  pub space_more : length old.links < 16384 → bytes + more ≤ 268435456 → HasSpace old.team old.links l
-  space_more few short = record { few = few; short = subst (λ n. n ≤ 268435456) size_more short }
+  pub space_more : length old.links < most_links → bytes + more ≤ most_file_bytes → HasSpace old.team old.links l
+  space_more few short = record { few = few; short = subst (λ n. n ≤ most_file_bytes) size_more short }
 
-  pub many_more : 16384 ≤ length old.links → ¬ (HasSpace old.team old.links l)
+  pub many_more : most_links ≤ length old.links → ¬ (HasSpace old.team old.links l)
   many_more many h = let few = h.few in omega (arith, few, many)
 
-  pub long_more : 268435456 < bytes + more → ¬ (HasSpace old.team old.links l)
-  long_more long h = let short = subst (λ n. n ≤ 268435456) (sym size_more) h.short in omega (arith, short, long)
+  pub long_more : most_file_bytes < bytes + more → ¬ (HasSpace old.team old.links l)
+  long_more long h = let short = subst (λ n. n ≤ most_file_bytes) (sym size_more) h.short in omega (arith, short, long)

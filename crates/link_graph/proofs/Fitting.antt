@@ -1,22 +1,20 @@
 -- Connected links and their entries.
-use Rattle.std.proofs.Common.{◌≡◌, ◌↔◌, ◌+◌, ◌-◌, ◌<◌, ◌≤◌, ℕ, zero, suc, Bool, true, false, List, [], ◌∷◌, ◌++◌, append_assoc, append-nil, Option, Some, None, option_map, refl, sym, ◌∙◌, ap, subst, length, map, take, filter, filter_map, is_some, slice_get, All, arith}
-use Rattle.std.specs.List.{AllByRecursion, cons_option}
+use Rattle.std.proofs.Common.{◌≡◌, ◌↔◌, ◌+◌, ◌-◌, ◌<◌, ◌≤◌, ℕ, zero, suc, true, List, [], ◌∷◌, ◌++◌, append_assoc, append-nil, Option, Some, None, refl, sym, ◌∙◌, ap, subst, length, map, filter, is_some, slice_get, All, arith}
+use Rattle.std.specs.List.{AllByRecursion}
 use Rattle.std.specs.Map.{keys_of}
 use Rattle.std.specs.Option.{option_map_or}
 use Rattle.std.proofs.lemmas.Bool.{false≢true}
 use Rattle.std.proofs.lemmas.List.{map-append, length-map}
 use Rattle.std.proofs.lemmas.List.Elements.{filter_map-append, All-from_recursion}
-use Rattle.std.proofs.lemmas.Option.{slice_get-map}
-use Rattle.team_sets.specs.Names.{Name, same_name, has_name}
+use Rattle.team_sets.specs.Names.{Name}
 use Rattle.team_sets.specs.Members.{IsIn}
 use Rattle.team_sets.specs.Order.{least, is_next, order_after, names}
-use Rattle.team_sets.specs.OrderLaws.{IsSet}
 use Rattle.team_sets.proofs.Ancestors.{in_at}
 use Rattle.team_sets.proofs.Connects.{connects_next}
 use Rattle.team_sets.proofs.Pasts.{all_more}
 use Rattle.team_model.specs.Judging.{name_of, prev_of}
 use Rattle.team_model.specs.declared.terms.Link.{Link}
-use Rattle.link_graph.specs.Kin.{child_places}
+use Rattle.link_graph.specs.Children.{child_places}
 use Rattle.link_graph.specs.Positions.{HasEntries, linked}
 use Rattle.link_graph.proofs.Names.{get_within}
 use Rattle.link_graph.proofs.NextOnes.{child_bound}

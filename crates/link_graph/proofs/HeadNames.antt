@@ -1,9 +1,8 @@
 -- The heads, as links connect one by one.
-use Rattle.std.proofs.Common.{◌≡◌, ◌+◌, ◌<◌, ◌≤◌, ℕ, zero, suc, Bool, true, false, not, ◌&&◌, ◌||◌, cond, List, [], ◌∷◌, ◌++◌, append_assoc, append-nil, refl, sym, ◌∙◌, ap, subst, inl, inr, length, map, filter, fold, insert, take, drop, get_or, add-one, drop-cons, arith}
-use Rattle.std.specs.List.{AllByRecursion, IsDistinct, list_all, list_any}
-use Rattle.std.specs.Cmp.Lexicographic.{bytes_decides}
+use Rattle.std.proofs.Common.{◌≡◌, ◌+◌, ◌<◌, ℕ, suc, Bool, true, false, not, ◌&&◌, ◌||◌, cond, List, [], ◌∷◌, ◌++◌, append_assoc, append-nil, refl, sym, ◌∙◌, ap, subst, inl, inr, length, filter, insert, drop, get_or, add-one, drop-cons}
+use Rattle.std.specs.List.{AllByRecursion, IsDistinct, list_all}
 use Rattle.std.proofs.lemmas.Bool.{false≢true, and_parts, not-true}
-use Rattle.std.proofs.lemmas.List.{map-append, map-id, drop_all}
+use Rattle.std.proofs.lemmas.List.{map-append, map-id}
 use Rattle.std.proofs.lemmas.List.Elements.{filter-append}
 use Rattle.std.proofs.lemmas.List.Folds.{list_any-append}
 use Rattle.std.proofs.lemmas.List.Sums.{fold-append}
@@ -15,8 +14,7 @@ use Rattle.team_sets.specs.SortedLaws.{IsAscending, AreApart, IsStrict}
 use Rattle.team_sets.proofs.Agree.{any_in, same_answer}
 use Rattle.team_sets.proofs.Arrivals.{first_set}
 use Rattle.team_sets.proofs.OrderLeast.{in_filter, of_filter}
-use Rattle.team_sets.proofs.Parts.{name_in, has_of_in}
-use Rattle.team_sets.proofs.Pasts.{all_names, any_of, one_named}
+use Rattle.team_sets.proofs.Pasts.{all_names, any_of}
 use Rattle.team_sets.proofs.SameSet.{set-filter}
 use Rattle.team_sets.proofs.Sorted.{ascending-members, ascending-ascends, ascending-one, ascending-of_set, names-strict, set-apart}
 use Rattle.team_model.specs.Judging.{name_of, prev_of, order_of}

@@ -1,8 +1,9 @@
+pub mod Answering
+pub mod ChildLists
 pub mod Exactly
 pub mod Facts
 pub mod Fitting
 pub mod HeadNames
-pub mod Kin
 pub mod Lining
 pub mod Names
 pub mod NextOnes

@@ -1,16 +1,14 @@
 -- The order by positions, as links connect one by one.
-use Rattle.std.proofs.Common.{◌≡◌, ◌+◌, ◌-◌, ◌<◌, ◌≤◌, ℕ, zero, suc, Bool, true, false, ◌||◌, cond, List, [], ◌∷◌, ◌++◌, append_assoc, Option, Some, None, option_map, refl, sym, ◌∙◌, ap, subst, length, map, insert, take, drop, filter_map, get_or, slice_get, All, add-one, drop-cons, arith}
+use Rattle.std.proofs.Common.{◌≡◌, ◌+◌, ◌-◌, ◌<◌, ◌≤◌, ℕ, zero, suc, Bool, true, false, ◌||◌, cond, List, [], ◌∷◌, ◌++◌, Option, Some, None, option_map, refl, sym, ◌∙◌, ap, subst, length, map, insert, drop, get_or, slice_get, All, add-one, drop-cons, arith}
 use Rattle.std.specs.List.{AllByRecursion, list_any, cons_option}
 use Rattle.std.specs.Map.{keys_of}
-use Rattle.std.proofs.lemmas.Bool.{false≢true}
-use Rattle.std.proofs.lemmas.List.{drop_all, length-map}
+use Rattle.std.proofs.lemmas.List.{length-map}
 use Rattle.std.proofs.lemmas.List.Elements.{recursion_from_All}
-use Rattle.std.proofs.lemmas.Option.{slice_get-map, slice_get_read}
-use Rattle.team_sets.specs.Names.{Name, same_name, has_name, name_lt}
+use Rattle.std.proofs.lemmas.Option.{slice_get-map}
+use Rattle.team_sets.specs.Names.{Name, has_name, name_lt}
 use Rattle.team_sets.specs.Insertion.{is_parent_of, place_in}
 use Rattle.team_sets.specs.Order.{is_next, names}
 use Rattle.team_sets.specs.OrderLaws.{ParentsFirst}
-use Rattle.team_sets.proofs.Ancestors.{first_take, next_at}
 use Rattle.team_sets.proofs.Inserts.{insertion_turn}
 use Rattle.team_model.specs.Judging.{name_of, prev_of, order_of}
 use Rattle.team_model.specs.declared.terms.Link.{Link}
@@ -82,7 +80,7 @@ place_within x (n ∷ ns) = go (list_any (has_name x.prev) (n ∷ ns) || name_lt
     go true h = omega (arith, h)
     go false h = omega arith
 
--- one more position in the order: the link x stands at it, behind those of the positions before
+-- one more position in the order: the link x stands at it, after those of the positions before
 pub order_more : (front : List Link) (x : Link) (order new : List ℕ) (ns : List Name) → ParentsFirst name_of prev_of [] front → is_next name_of prev_of front x ≡ true
     → AllByRecursion (λ q. q < length front) order → at_places front order ≡ order_of front → ns ≡ names name_of (at_places front order) → length (at_places front order) ≡ length order
     → new ≡ insert order (place_index x ns) (length front) → at_places (front ++ x ∷ []) new ≡ order_of (front ++ x ∷ [])
@@ -113,7 +111,7 @@ pub length_at : {A : Type 0} (xs : List A) (places : List ℕ) → AllByRecursio
 length_at xs [] range = refl
 length_at xs (q ∷ qs) range = let w = some_at xs q range.0 in rw w.1 (ap suc (length_at xs qs range.1))
 
--- where a link goes, by the names behind the place i
+-- where a link goes, by the names after the place i
 pub place_parent : (x : Link) (keys : List Name) (order : List ℕ) (i : ℕ) (n : Name) → i < length order → slice_get keys (get_or order i 0) ≡ Some n → has_name x.prev n ≡ true
     → place_index x (at_places keys (drop i order)) ≡ suc (place_index x (at_places keys (drop (i + 1) order)))
 place_parent x keys order i n within e is = rw (at_here keys order i n within e, is) refl
@@ -134,7 +132,7 @@ pub none_more : (x : Link) (keys : List Name) (order : List ℕ) (i : ℕ) (n : 
     → list_any (has_name x.prev) (at_places keys (drop (i + 1) order)) ≡ false → list_any (has_name x.prev) (at_places keys (drop i order)) ≡ false
 none_more x keys order i n within e is none = rw (at_here keys order i n within e, is) none
 
--- behind a parent, all that stand before it are passed
+-- after a parent, all that stand before it are passed
 pub passed : (x : Link) (keys : List Name) (order : List ℕ) (i : ℕ) (n : Name) → AllByRecursion (λ q. q < length keys) order → i < length order → slice_get keys (get_or order i 0) ≡ Some n
     → has_name x.prev n ≡ true → place_index x (at_places keys order) ≡ suc i + place_index x (at_places keys (drop (suc i) order))
 passed x keys [] i n range within e is = absurd (omega (arith, within))

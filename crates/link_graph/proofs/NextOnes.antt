@@ -1,11 +1,11 @@
 -- What may connect next: once a link connects, of the links that wait only its children are to be looked at.
-use Rattle.std.proofs.Common.{◌≡◌, ◌+◌, ◌-◌, ◌<◌, ◌≤◌, ℕ, zero, suc, Bool, true, false, not, ◌&&◌, ◌||◌, cond, List, [], ◌∷◌, ◌++◌, append_assoc, Option, Some, None, refl, sym, ◌∙◌, ap, subst, inl, inr, length, map, filter, take, drop, get_or, slice_get, add-one, drop-cons, All, arith}
+use Rattle.std.proofs.Common.{◌≡◌, ◌+◌, ◌-◌, ◌<◌, ◌≤◌, ℕ, Bool, true, false, not, ◌&&◌, ◌||◌, cond, List, [], ◌∷◌, ◌++◌, append_assoc, Some, None, refl, sym, ◌∙◌, ap, subst, inl, inr, length, filter, take, drop, get_or, slice_get, add-one, drop-cons, arith}
 use Rattle.std.specs.List.{AllByRecursion, list_all, list_any}
 use Rattle.std.specs.Cmp.Lexicographic.{bytes_decides, slice_cmp, nat_list_cmp_total, texts_ties}
 use Rattle.std.specs.Ordering.{is_eq, is_gt, is_lt, nat_cmp, ordering_reverse}
 use Rattle.std.specs.declared.cmp.Ordering.{Ordering}
 use Rattle.std.specs.declared.cmp.Ordering.TheVariants.{Less, Equal, Greater}
-use Rattle.std.proofs.lemmas.Bool.{false≢true, and_parts, or_left, or_right, not-true}
+use Rattle.std.proofs.lemmas.Bool.{false≢true, and_parts, not-true}
 use Rattle.std.proofs.lemmas.List.{length_push}
 use Rattle.std.proofs.lemmas.Option.{slice_get_read}
 use Rattle.std.proofs.lemmas.List.Elements.{filter_map-append}
@@ -22,9 +22,9 @@ use Rattle.team_sets.proofs.Parts.{filter_none, name_in}
 use Rattle.team_sets.proofs.Pasts.{all_names, any_of}
 use Rattle.team_model.specs.Judging.{name_of, prev_of}
 use Rattle.team_model.specs.declared.terms.Link.{Link}
-use Rattle.link_graph.specs.Kin.{named, child_places}
+use Rattle.link_graph.specs.Children.{named, child_places}
 use Rattle.link_graph.specs.Positions.{at_places, may_stand, IsReady}
-use Rattle.link_graph.proofs.Kin.{named-more, take_front}
+use Rattle.link_graph.proofs.ChildLists.{named-more, take_front}
 use Rattle.link_graph.proofs.Names.{has_by_order, same_flip}
 
 -- the link has this name, and may connect

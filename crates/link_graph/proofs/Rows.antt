@@ -1,19 +1,18 @@
 -- The connected links line up one by one.
-use Rattle.std.proofs.Common.{◌≡◌, ◌+◌, ◌-◌, ◌<◌, ◌≤◌, ℕ, zero, suc, List, [], ◌∷◌, ◌++◌, Option, Some, None, refl, sym, ◌∙◌, ap, subst, length, map, insert, take, drop, slice_get, add-one, All, arith}
+use Rattle.std.proofs.Common.{◌≡◌, ◌+◌, ◌<◌, ◌≤◌, ℕ, zero, suc, List, [], ◌∷◌, ◌++◌, Option, Some, None, refl, sym, ◌∙◌, ap, subst, length, insert, take, drop, slice_get, add-one, All, arith}
 use Rattle.std.specs.List.{AllByRecursion}
 use Rattle.std.specs.Map.{keys_of}
-use Rattle.std.specs.Vec.{vec_capacity}
 use Rattle.std.proofs.lemmas.List.{length-map, map-append, take-append-drop, length_push, take_all}
 use Rattle.std.proofs.lemmas.List.Elements.{All-from_recursion, recursion_from_All}
 use Rattle.std.proofs.lemmas.List.Sums.{fold-append}
 use Rattle.team_sets.specs.Names.{Name}
-use Rattle.team_sets.specs.Order.{is_next, names}
+use Rattle.team_sets.specs.Order.{names}
 use Rattle.team_sets.specs.OrderLaws.{ParentsFirst}
 use Rattle.team_sets.proofs.Ancestors.{first_take, next_at}
-use Rattle.team_model.specs.Judging.{name_of, prev_of, order_of}
+use Rattle.team_model.specs.Judging.{name_of, prev_of}
 use Rattle.team_model.specs.declared.terms.Link.{Link}
-use Rattle.link_graph.specs.Heads.{heads_after, heads_with}
-use Rattle.link_graph.specs.Lines.{HasRoom, IsLineup, place_index}
+use Rattle.link_graph.specs.Heads.{heads_with}
+use Rattle.link_graph.specs.Lines.{IsLineup, place_index}
 use Rattle.link_graph.specs.Positions.{at_places, HasEntries, linked}
 use Rattle.link_graph.specs.declared.lineup.Lineup.{Lineup}
 use Rattle.link_graph.proofs.Fitting.{keys_linked, length-linked}

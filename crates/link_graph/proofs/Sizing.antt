@@ -1,5 +1,5 @@
 -- How many bytes a team file has, as links come and go.
-use Rattle.std.proofs.Common.{◌≡◌, ◌+◌, ◌-◌, ◌*◌, ◌<◌, ◌≤◌, ℕ, zero, suc, Bool, true, false, cond, List, [], ◌∷◌, ◌++◌, Option, Some, None, refl, sym, ◌∙◌, ap, subst, inl, inr, length, length-append, map, find, option_map, flat_map, fold, codes, decimal, slice_get, arith}
+use Rattle.std.proofs.Common.{◌≡◌, ◌+◌, ◌*◌, ℕ, Bool, true, false, cond, List, [], ◌∷◌, ◌++◌, Option, Some, None, refl, sym, ◌∙◌, ap, inl, inr, length, length-append, find, option_map, flat_map, decimal, arith}
 use Rattle.std.specs.List.{AllByRecursion}
 use Rattle.std.specs.Cmp.Lexicographic.{bytes_decides}
 use Rattle.std.proofs.lemmas.Bool.{false≢true}
@@ -7,14 +7,14 @@ use Rattle.std.proofs.lemmas.List.Sums.{fold-append}
 use Rattle.hex.specs.Hex.{encode_lower, lower_digits}
 use Rattle.hex.proofs.HexLemmas.{length-encode_with}
 use Rattle.sha2.specs.Sha256.{sha256}
-use Rattle.team_sets.specs.Names.{Name, same_name, has_name, name_lt, put_in}
+use Rattle.team_sets.specs.Names.{Name, same_name, name_lt, put_in}
 use Rattle.team_sets.specs.Members.{IsIn}
-use Rattle.team_sets.specs.OrderLaws.{IsSet, NamesDiffer}
+use Rattle.team_sets.specs.OrderLaws.{IsSet}
 use Rattle.team_sets.proofs.Distinct.{distinct-differ}
 use Rattle.team_sets.proofs.Pasts.{all_at}
 use Rattle.team_model.specs.Judging.{name_of}
 use Rattle.team_model.specs.declared.terms.Link.{Link}
-use Rattle.link_text.specs.LinkText.{text, IsValid}
+use Rattle.link_text.specs.LinkText.{text}
 use Rattle.link_text.specs.TeamFile.{by_name, file_text, frame, header}
 use Rattle.link_graph.specs.Holds.{text_named}
 use Rattle.link_graph.specs.Sizes.{frame_length}

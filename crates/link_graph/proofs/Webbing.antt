@@ -2,10 +2,10 @@
 use Rattle.std.proofs.Common.{◌≡◌, ◌+◌, ◌-◌, ◌^◌, ◌<◌, ◌≤◌, ℕ, zero, suc, true, false, Option, Some, None, Result, Ok, Err, OnErr, OnOk, append_assoc, get_or, slice_get, length-append, List, [], ◌∷◌, ◌++◌, append-nil, refl, sym, ◌∙◌, ap, subst, length, take, arith}
 use Rattle.std.specs.List.{AllByRecursion, IsDistinct}
 use Rattle.std.specs.Map.{keys_of}
-use Rattle.std.specs.Vec.{vec_capacity}
 use Rattle.std.proofs.lemmas.Bool.{false≢true, or_parts}
 use Rattle.std.proofs.lemmas.List.{length_push}
 use Rattle.std.proofs.lemmas.Option.{slice_get_read}
+use Rattle.tg_text.specs.Limits.{most_links}
 use Rattle.team_sets.specs.Names.{Name, same_name, has_name}
 use Rattle.team_sets.specs.Members.{IsIn}
 use Rattle.team_sets.specs.ArrivalLaws.{AllConnected}
@@ -13,17 +13,17 @@ use Rattle.team_sets.specs.Order.{is_next, names, order_after}
 use Rattle.team_sets.specs.OrderLaws.{IsSet, ParentsFirst}
 use Rattle.team_sets.proofs.Arrivals.{arrived_arranged, arrived_extends, arrived_ordered}
 use Rattle.team_sets.proofs.Parts.{name_in}
-use Rattle.team_model.specs.Judging.{name_of, prev_of, order_of}
+use Rattle.team_model.specs.Judging.{name_of, prev_of}
 use Rattle.team_model.specs.declared.terms.Link.{Link}
 use Rattle.link_graph.specs.Held.{arrived_of}
-use Rattle.link_graph.specs.Kin.{HasKids, child_places, named}
+use Rattle.link_graph.specs.Children.{HasChildren, child_places, named}
 use Rattle.link_graph.specs.Lines.{HasRoom, IsLineup}
 use Rattle.link_graph.specs.Positions.{HasEntries, linked}
 use Rattle.link_graph.specs.Webs.{IsAwaiting, IsConnecting, IsUnlined, IsWeb, without_last}
 use Rattle.link_graph.specs.declared.lineup.Lineup.{Lineup}
 use Rattle.link_graph.specs.declared.web.Web.{Web}
 use Rattle.link_graph.proofs.Fitting.{keys_linked, length-linked, named_at}
-use Rattle.link_graph.proofs.Kin.{take_end, take_front}
+use Rattle.link_graph.proofs.ChildLists.{take_end, take_front}
 use Rattle.link_graph.proofs.NextOnes.{split_last}
 
 -- what connects when the last link comes follows what had connected
@@ -163,7 +163,7 @@ entries_less links x [] fresh h all = tt
 entries_less links x (e ∷ es) fresh h all =
     (names_back links x e.1 e.0 h.0 (λ same. false≢true (sym fresh ∙ ap (λ (n : Name). has_name (names name_of links) n) same ∙ all.0)), entries_less links x es fresh h.1 all.1)
 
-pub awaiting_push : (old new : Web) (x : Link) → IsWeb old → length old.holding < 16384 → has_name (names name_of old.holding) x.name ≡ false
+pub awaiting_push : (old new : Web) (x : Link) → IsWeb old → length old.holding < most_links → has_name (names name_of old.holding) x.name ≡ false
     → new.holding ≡ old.holding ++ x ∷ [] → new.connected ≡ old.connected → new.lineup ≡ old.lineup → IsAwaiting new
 awaiting_push old new x is room fresh held connected line =
     let long : length (old.holding ++ x ∷ []) ≡ length old.holding + 1 = length_push old.holding x in
@@ -186,14 +186,14 @@ front_push old x new is = ap (λ (l : List Link). without_last l) is ∙ take_en
 
 -- the link that came last is let go, and all is as before
 pub web_back : (old mid new : Web) (x : Link) → IsWeb old → IsAwaiting mid → mid.holding ≡ old.holding ++ x ∷ [] → new.holding ≡ without_last mid.holding → new.connected ≡ old.connected
-    → new.lineup ≡ mid.lineup → mid.connected ≡ old.connected → HasKids (without_last mid.holding) new.children.lists → IsWeb new
-web_back old mid new x is waits held back connected line kept kids =
+    → new.lineup ≡ mid.lineup → mid.connected ≡ old.connected → HasChildren (without_last mid.holding) new.children.lists → IsWeb new
+web_back old mid new x is waits held back connected line kept children =
     let front : without_last mid.holding ≡ old.holding = front_push old.holding x mid.holding held in
     let whole : new.holding ≡ old.holding = back ∙ front in
     record {
       set = rw whole is.set;
       few = rw whole is.few;
-      kids = rw back kids;
+      children = rw back children;
       connected = subst (λ (l : List Link). IsConnecting new (arrived_of l)) (sym whole) (record {
         entries = rw (whole, connected) is.connected.entries;
         linked = rw (whole, connected) is.connected.linked;
@@ -291,7 +291,7 @@ cut_is old middle here cut kept count is some counted same_links same_entries cu
     let first = arrived_first (without_last old.holding) (linked (without_last old.holding) cut) fits.1 in
     let many : length cut ≡ length (arrived_of (without_last old.holding)) = count_of (without_last old.holding) (arrived_of (without_last old.holding)) cut (length cut) fits.0 fits.1 refl in
     let within = arrived_within (without_last old.holding) (set_front old.holding some is.set) in
-    let few = front_few old.holding 16384 is.few in
+    let few = front_few old.holding most_links is.few in
     record {
       entries = rw whole fits.0;
       linked_is = rw whole fits.1;
@@ -299,14 +299,14 @@ cut_is old middle here cut kept count is some counted same_links same_entries cu
       count = omega (arith, many, within, few);
     }
 
-pub web_cut : (old new : Web) (middle : List Link) → IsWeb old → 0 < length old.holding → middle ≡ old.holding → new.holding ≡ without_last middle → HasKids (without_last old.holding) new.children.lists
+pub web_cut : (old new : Web) (middle : List Link) → IsWeb old → 0 < length old.holding → middle ≡ old.holding → new.holding ≡ without_last middle → HasChildren (without_last old.holding) new.children.lists
     → HasEntries new.holding new.connected → linked new.holding new.connected ≡ arrived_of (without_last old.holding) → IsLineup (linked new.holding new.connected) new.lineup → HasRoom (length new.connected) new.lineup → IsWeb new
-web_cut old new middle is some same back kids entries all line room =
+web_cut old new middle is some same back children entries all line room =
     let whole : new.holding ≡ without_last old.holding = back ∙ ap (λ (l : List Link). without_last l) same in
     record {
       set = rw whole (set_front old.holding some is.set);
-      few = rw whole (front_few old.holding 16384 is.few);
-      kids = rw whole kids;
+      few = rw whole (front_few old.holding most_links is.few);
+      children = rw whole children;
       connected = subst (λ (l : List Link). IsConnecting new (arrived_of l)) (sym whole) (record {
         entries = entries;
         linked = all;

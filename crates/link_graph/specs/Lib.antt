@@ -1,9 +1,10 @@
+pub mod Causes
+pub mod Children
 pub mod Faults
 pub mod Graphs
 pub mod Heads
 pub mod Held
 pub mod Holds
-pub mod Kin
 pub mod Lines
 pub mod Positions
 pub mod Sizes

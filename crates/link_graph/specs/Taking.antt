@@ -1,11 +1,14 @@
 -- What becomes of a text that is given to a graph: it is taken, or held already, or why it isn't taken.
-use Rattle.std.specs.Prelude.{◌≡◌, ◌+◌, ◌≤◌, ◌<◌, ℕ, true, false, List, [], ◌∷◌, ◌++◌, length, Result, Ok, Err}
+use Rattle.std.specs.Prelude.{◌≡◌, ◌≤◌, ◌<◌, ◌↔◌, ℕ, true, false, List, [], ◌∷◌, ◌++◌, length, Result, Ok, Err, IfOk, OnErr}
+use Rattle.tg_text.specs.Limits.{most_file_bytes, most_link_bytes, most_links}
+use Rattle.tg_text.specs.Reading.{IsExact}
 use Rattle.team_sets.specs.Names.{Name, has_name}
 use Rattle.team_sets.specs.Members.{IsIn}
 use Rattle.team_sets.specs.Order.{names}
 use Rattle.team_model.specs.Judging.{name_of}
 use Rattle.team_model.specs.declared.terms.Link.{Link}
-use Rattle.link_text.specs.LinkText.{text, IsOfTeam, IsValid, Reads, proves}
+use Rattle.link_text.specs.Faults.{IsBadText, IsOfOther, IsUnverified}
+use Rattle.link_text.specs.LinkText.{text, IsValid}
 use Rattle.link_text.specs.TeamFile.{file_text}
 use Rattle.link_graph.specs.Held.{Held, answer_of}
 use Rattle.link_graph.specs.declared.take_fault.TakeFault.{TakeFault}
@@ -13,20 +16,20 @@ use Rattle.link_graph.specs.declared.take_fault.TakeFault.TheVariants.{TooLong, 
 use Rattle.link_graph.specs.declared.took.Took.{Took}
 use Rattle.link_graph.specs.declared.took.Took.TheVariants.{New, Waiting, Again}
 
--- this very text is held
+-- This very text is held.
 abbrev pub HasText : List Link → List ℕ → Type 0
 HasText links bytes = (l : Link) × IsIn l links × (text l ≡ bytes)
 
--- no link of this name is held
+-- No link of this name is held.
 abbrev pub IsFresh : List Link → Link → Type 0
 IsFresh links l = has_name (names name_of links) l.name ≡ false
 
--- the link is within the limits of a team
+-- The link is within the limits of a team.
 pub record HasSpace (team : Name) (links : List Link) (l : Link) : Type 0 where
-  pub few : length links < 16384
-  pub short : length (file_text team (links ++ l ∷ [])) ≤ 268435456
+  pub few : length links < most_links
+  pub short : length (file_text team (links ++ l ∷ [])) ≤ most_file_bytes
 
--- the link of these bytes is held behind the others
+-- The link of these bytes is held after the others.
 pub record Takes (old new : Held) (bytes : List ℕ) (took : Took) : Type 0 where
   pub link : Link
   pub valid : IsValid old.team bytes link
@@ -35,26 +38,13 @@ pub record Takes (old new : Held) (bytes : List ℕ) (took : Took) : Type 0 wher
   pub held : new ≡ record old { links = old.links ++ link ∷ [] }
   pub answer : took ≡ answer_of old.links new.links
 
--- what an answer says
+-- What an answer says.
 abbrev pub IsTaken : Held → Held → List ℕ → Took → Type 0
 IsTaken old new bytes Again = HasText old.links bytes × (new ≡ old)
 IsTaken old new bytes Waiting = Takes old new bytes Waiting
 IsTaken old new bytes (New positions) = Takes old new bytes (New positions)
 
--- the bytes are the text of a link that isn't of the team
-pub record IsOfOther (team : Name) (bytes : List ℕ) : Type 0 where
-  pub link : Link
-  pub reads : Reads bytes link
-  pub other : ¬ (IsOfTeam team link)
-
--- the bytes are the text of a link of the team that doesn't verify
-pub record IsUnverified (team : Name) (bytes : List ℕ) : Type 0 where
-  pub link : Link
-  pub reads : Reads bytes link
-  pub of_team : IsOfTeam team link
-  pub unproved : proves link ≡ false
-
--- another text is held under the name of a link of the team
+-- Another text is held under the name of a link of the team.
 pub record Clashes (old : Held) (bytes : List ℕ) (n : Name) : Type 0 where
   pub link : Link
   pub valid : IsValid old.team bytes link
@@ -62,7 +52,7 @@ pub record Clashes (old : Held) (bytes : List ℕ) (n : Name) : Type 0 where
   pub taken : has_name (names name_of old.links) link.name ≡ true
   pub name : n ≡ link.name
 
--- a new link of the team, for which there is no room beside so many links, whose file has so many bytes
+-- A new link of the team, for which there is no room beside so many links, whose file has so many bytes.
 pub record IsFull (old : Held) (bytes : List ℕ) (held size : ℕ) : Type 0 where
   pub link : Link
   pub valid : IsValid old.team bytes link
@@ -71,22 +61,15 @@ pub record IsFull (old : Held) (bytes : List ℕ) (held size : ℕ) : Type 0 whe
   pub count : held ≡ length old.links
   pub bytes_held : size ≡ length (file_text old.team old.links)
 
--- there is no room for a link, or its name is taken
-abbrev pub IsRoomFault : Held → Link → TakeFault → Type 0
-IsRoomFault old l TooLong = ⊥
-IsRoomFault old l BadText = ⊥
-IsRoomFault old l OtherTeam = ⊥
-IsRoomFault old l BadSignature = ⊥
-IsRoomFault old l (NameClash n) = (has_name (names name_of old.links) l.name ≡ true) × (n ≡ l.name)
-IsRoomFault old l (Full held size) = IsFresh old.links l × (¬ (HasSpace old.team old.links l)) × (held ≡ length old.links) × (size ≡ length (file_text old.team old.links))
-IsRoomFault old l Memory = ⊥
-
--- the text isn't that of a link of the team, or memory is short
-abbrev pub IsReadFault : TakeFault → Type 0
-IsReadFault TooLong = Unit {0}
-IsReadFault BadText = Unit {0}
-IsReadFault OtherTeam = Unit {0}
-IsReadFault BadSignature = Unit {0}
-IsReadFault (NameClash n) = ⊥
-IsReadFault (Full held size) = ⊥
-IsReadFault Memory = Unit {0}
+-- What a graph answers to a text, and what it holds then. `Again` is answered exactly where the text is held. Each fault
+-- comes exactly where its cause holds, unless memory is short, and leaves all as it was.
+pub record Answers (old new : Held) (bytes : List ℕ) (result : Result Took TakeFault) : Type 0 where
+  pub taken : IfOk result (λ took. IsTaken old new bytes took)
+  pub again : HasText old.links bytes → result ≡ Ok Again
+  pub fault : OnErr result (new ≡ old)
+  pub too_long : (result ≡ Err TooLong) ↔ (most_link_bytes < length bytes)
+  pub bad_text : IsExact Memory BadText (IsBadText bytes) result
+  pub other_team : IsExact Memory OtherTeam (IsOfOther old.team bytes) result
+  pub bad_signature : IsExact Memory BadSignature (IsUnverified old.team bytes) result
+  pub name_clash : (n : Name) → IsExact Memory (NameClash n) (Clashes old bytes n) result
+  pub full : (held size : ℕ) → IsExact Memory (Full held size) (IsFull old bytes held size) result

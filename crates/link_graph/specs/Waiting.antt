@@ -9,12 +9,12 @@ use Rattle.team_model.specs.declared.terms.Link.{Link}
 use Rattle.link_graph.specs.Held.{answer_of, arrived_of}
 use Rattle.link_graph.specs.declared.took.Took.TheVariants.{Waiting}
 
--- with the link held, not all its parents are connected
+-- With the link held, not all its parents are connected.
 abbrev pub WaitsForParents : Type 0
 WaitsForParents = (links : List Link) (l : Link) → IsSet name_of (links ++ l ∷ [])
     → (answer_of links (links ++ l ∷ []) ≡ Waiting) ↔ (list_all (has_name (names name_of (arrived_of (links ++ l ∷ [])))) l.prev ≡ false)
 
--- with the link held, it isn't one of those connected
+-- With the link held, it isn't one of those connected.
 abbrev pub WaitsWhereUnconnected : Type 0
 WaitsWhereUnconnected = (links : List Link) (l : Link) → IsSet name_of (links ++ l ∷ [])
     → (answer_of links (links ++ l ∷ []) ≡ Waiting) ↔ (has_name (names name_of (arrived_of (links ++ l ∷ []))) l.name ≡ false)

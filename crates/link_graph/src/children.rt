@@ -2,7 +2,7 @@
 //! them are connected.
 ghost use Rattle.std.specs.Prelude.{◌≡◌, ℕ, List, [], ◌∷◌, ◌++◌, ◌-◌, length, take, if◌then◌else◌, IfOk, OnOk, OnErr};
 ghost use Rattle.team_sets.specs.Names.{same_name};
-ghost use Rattle.link_graph.specs.Kin.{kids, named};
+ghost use Rattle.link_graph.specs.Children.{children_of, named};
 
 use std::alloc::Global;
 use std::collections::HashMap;
@@ -32,7 +32,7 @@ fn one_place(alloc: Global, place: u32) -> Result<Vec<u32>, Memory>
 
 impl Children {
     pub(crate) fn new(alloc: Global) -> Children
-        ensures { (n : List ℕ) → kids result.lists n ≡ [] }
+        ensures { (n : List ℕ) → children_of result.lists n ≡ [] }
     {
         Children {
             lists: HashMap::new(alloc),
@@ -41,7 +41,7 @@ impl Children {
 
     /// The places of the children of a name.
     pub(crate) fn of(&self, name: &LinkName) -> &[u32]
-        ensures { result.now ≡ kids self.now.lists name.now }
+        ensures { result.now ≡ children_of self.now.lists name.now }
     {
         match self.lists.get(name) {
             Some(list) => list.as_slice(),
@@ -50,8 +50,8 @@ impl Children {
     }
 
     fn add_child(&mut self, alloc: Global, parent: &LinkName, place: u32) -> Result<(), Memory>
-        ensures ok { OnOk result ((n : List ℕ) → kids self.new.lists n ≡ kids self.old.lists n ++ (if same_name parent.now n then place ∷ [] else [])) }
-        ensures err { OnErr result ((n : List ℕ) → kids self.new.lists n ≡ kids self.old.lists n) }
+        ensures ok { OnOk result ((n : List ℕ) → children_of self.new.lists n ≡ children_of self.old.lists n ++ (if same_name parent.now n then place ∷ [] else [])) }
+        ensures err { OnErr result ((n : List ℕ) → children_of self.new.lists n ≡ children_of self.old.lists n) }
     {
         match self.lists.get_mut(parent) {
             Some(list) => push_place(list, place),
@@ -64,7 +64,7 @@ impl Children {
     }
 
     fn remove_child(&mut self, parent: &LinkName)
-        ensures { (n : List ℕ) → kids self.new.lists n ≡ (if same_name parent.now n then take (length (kids self.old.lists n) - 1) (kids self.old.lists n) else kids self.old.lists n) }
+        ensures { (n : List ℕ) → children_of self.new.lists n ≡ (if same_name parent.now n then take (length (children_of self.old.lists n) - 1) (children_of self.old.lists n) else children_of self.old.lists n) }
     {
         if let Some(list) = self.lists.get_mut(parent) {
             let _ = list.pop();
@@ -78,8 +78,8 @@ impl Children {
         parents: &[LinkName],
         place: u32,
     ) -> Result<(), Memory>
-        ensures ok { OnOk result ((n : List ℕ) → kids self.new.lists n ≡ kids self.old.lists n ++ named place parents.now n) }
-        ensures err { OnErr result ((n : List ℕ) → kids self.new.lists n ≡ kids self.old.lists n) }
+        ensures ok { OnOk result ((n : List ℕ) → children_of self.new.lists n ≡ children_of self.old.lists n ++ named place parents.now n) }
+        ensures err { OnErr result ((n : List ℕ) → children_of self.new.lists n ≡ children_of self.old.lists n) }
     {
         for (i, parent) in parents.iter().enumerate() {
             if let Err(memory) = self.add_child(alloc, parent, place) {
@@ -92,7 +92,7 @@ impl Children {
 
     /// Takes away the child that came last from each of its parents.
     pub(crate) fn remove(&mut self, parents: &[LinkName])
-        ensures { (before : List ℕ → List ℕ) (place : ℕ) → ((n : List ℕ) → kids self.old.lists n ≡ before n ++ named place parents.now n) → (n : List ℕ) → kids self.new.lists n ≡ before n }
+        ensures { (before : List ℕ → List ℕ) (place : ℕ) → ((n : List ℕ) → children_of self.old.lists n ≡ before n ++ named place parents.now n) → (n : List ℕ) → children_of self.new.lists n ≡ before n }
     {
         for parent in parents {
             self.remove_child(parent);

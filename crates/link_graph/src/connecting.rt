@@ -5,7 +5,7 @@ ghost use Rattle.team_sets.specs.Order.{order_after};
 ghost use Rattle.team_sets.specs.OrderLaws.{IsSet};
 ghost use Rattle.team_sets.specs.ArrivalLaws.{AllConnected};
 ghost use Rattle.team_model.specs.Judging.{name_of, prev_of};
-ghost use Rattle.link_graph.specs.Kin.{HasKids};
+ghost use Rattle.link_graph.specs.Children.{HasChildren};
 ghost use Rattle.link_graph.specs.Positions.{HasEntries, IsReady, linked};
 
 use crate::children::Children;
@@ -26,7 +26,7 @@ fn connect_ready(
 ) -> Result<(), Memory>
     requires few { length holding.now < 2 ^ 32 }
     requires set { IsSet name_of holding.now }
-    requires kids { HasKids holding.now children.now.lists }
+    requires children { HasChildren holding.now children.now.lists }
     requires entries { HasEntries holding.now connected.old }
     requires ready { IsReady holding.now (keys_of connected.old) ready.old.keys }
     ensures entries { OnOk result (HasEntries holding.now connected.new) }
@@ -43,7 +43,8 @@ fn connect_ready(
     Ok(())
 }
 
-fn connect_last(
+// Connects the link that came last, if it may, and those that waited for it. Where memory is short, some have connected.
+fn connect_from_last(
     alloc: Global,
     holding: &Holding,
     children: &Children,
@@ -52,7 +53,7 @@ fn connect_last(
     requires few { length holding.now < 2 ^ 32 }
     requires some { 0 < length holding.now }
     requires set { IsSet name_of holding.now }
-    requires kids { HasKids holding.now children.now.lists }
+    requires children { HasChildren holding.now children.now.lists }
     requires entries { HasEntries holding.now connected.old }
     requires others { AllConnected name_of prev_of (take (length holding.now - 1) holding.now) (linked holding.now connected.old) }
     ensures entries { OnOk result (HasEntries holding.now connected.new) }
@@ -75,7 +76,7 @@ pub(crate) fn connect(
     requires few { length holding.now < 2 ^ 32 }
     requires some { 0 < length holding.now }
     requires set { IsSet name_of holding.now }
-    requires kids { HasKids holding.now children.now.lists }
+    requires children { HasChildren holding.now children.now.lists }
     requires entries { HasEntries holding.now connected.old }
     requires others { AllConnected name_of prev_of (take (length holding.now - 1) holding.now) (linked holding.now connected.old) }
     ensures entries { OnOk result (HasEntries holding.now connected.new) }
@@ -84,7 +85,7 @@ pub(crate) fn connect(
     ensures err { OnErr result (connected.new ≡ connected.old) }
 {
     let before = connected.len();
-    match connect_last(alloc, holding, children, connected) {
+    match connect_from_last(alloc, holding, children, connected) {
         Ok(()) => Ok(()),
         Err(memory) => {
             connected.truncate(before);

@@ -1,34 +1,30 @@
-ghost use Rattle.std.specs.Prelude.{◌≡◌, ◌<◌, ◌≤◌, ◌++◌, [], ◌∷◌, ◌↔◌, ℕ, List, length, take, position, true, false, Some, slice_get, option_map, filter_map, All, IsTrue, IfErr, IfOk, OnErr, OnOk, Ok, Err};
+ghost use Rattle.std.specs.Prelude.{◌≡◌, ◌<◌, ◌≤◌, ◌++◌, [], ◌∷◌, length, position, Some, slice_get, option_map, All, IfErr, IfOk, OnErr, OnOk};
+ghost use Rattle.sha2.specs.Sha256.{sha256};
+ghost use Rattle.tg_text.specs.Limits.{most_link_bytes};
 ghost use Rattle.team_sets.specs.Names.{has_name, same_name};
 ghost use Rattle.team_sets.specs.Order.{names};
 ghost use Rattle.team_model.specs.Judging.{name_of, order_of};
-ghost use Rattle.link_text.specs.Faults.{IsBadText};
 ghost use Rattle.link_text.specs.LinkText.{IsValid, text};
 ghost use Rattle.link_text.specs.TeamFile.{IsHeld, file_text};
-ghost use Rattle.link_graph.specs.Faults.{IsExact};
+ghost use Rattle.link_graph.specs.Causes.{IsCaused, IsRoomFault};
 ghost use Rattle.link_graph.specs.Heads.{heads_of};
 ghost use Rattle.link_graph.specs.Held.{answer_of, arrived_of};
 ghost use Rattle.link_graph.specs.Holds.{text_named};
 ghost use Rattle.link_graph.specs.Positions.{at_places};
-ghost use Rattle.link_graph.specs.Taking.{Clashes, HasSpace, HasText, IsFresh, IsFull, IsOfOther, IsRoomFault, IsTaken, IsUnverified};
+ghost use Rattle.link_graph.specs.Taking.{Answers, HasSpace, HasText, IsFresh};
 ghost use Rattle.link_graph.specs.Webs.{without_last};
 
 use crate::connected::link_of;
 use crate::measuring::{frame_length, header_length};
 use crate::take_fault::TakeFault;
-use crate::taking::{has_text, read_of_team};
+use crate::taking::has_text;
 use crate::took::Took;
 use crate::web::Web;
+use link_text::{name_of, read_named_of_team};
 use std::alloc::Global;
 use std::marker::Model;
 use team_model::Link;
-use tg_text::{LinkName, Memory};
-
-// How many links a team may have.
-const MAX_LINKS: usize = 16_384;
-
-// How many bytes a team file may have.
-const MAX_BYTES: u64 = 268_435_456;
+use tg_text::{LinkName, MOST_FILE_BYTES, MOST_LINK_BYTES, MOST_LINKS, Memory};
 
 /// The held links of a team, connected as far as their parents are there.
 #[derive(Drop)]
@@ -171,7 +167,7 @@ impl Graph {
     // Whether there is room for one more link of the team, whose text has so many bytes.
     fn admit(&self, link: &Link, len: usize) -> Result<(), TakeFault>
         requires len { len ≡ length (text link.now) }
-        requires short { len ≤ 1048576 }
+        requires short { len ≤ most_link_bytes }
         ensures fresh { IfOk result (λ _. IsFresh self.now.links link.now) }
         ensures space { IfOk result (λ _. HasSpace self.now.team self.now.links link.now) }
         ensures fault { IfErr result (λ fault. IsRoomFault self.now link.now fault) }
@@ -180,7 +176,7 @@ impl Graph {
             return Err(TakeFault::NameClash { name: link.name });
         }
         let bytes = self.bytes + frame_length(len);
-        if self.links().len() >= MAX_LINKS || bytes > MAX_BYTES {
+        if self.links().len() >= MOST_LINKS || bytes > MOST_FILE_BYTES {
             return Err(TakeFault::Full {
                 links: self.held(),
                 bytes: self.bytes,
@@ -189,26 +185,19 @@ impl Graph {
         Ok(())
     }
 
-    // The link of a text that isn't held, where there is room for it.
-    fn read_new(&self, bytes: &[u8]) -> Result<Link, TakeFault>
+    // The link of a text of this name that isn't held, where there is room for it.
+    fn read_new(&self, bytes: &[u8], name: LinkName) -> Result<Link, TakeFault>
+        requires short { length bytes.now ≤ most_link_bytes }
+        requires named { name ≡ sha256 bytes.now }
         requires new { ¬ (HasText self.now.links bytes.now) }
         ensures valid { IfOk result (λ link. IsValid self.now.team bytes.now link) }
         ensures fresh { IfOk result (λ link. IsFresh self.now.links link) }
         ensures space { IfOk result (λ link. HasSpace self.now.team self.now.links link) }
-        ensures too_long { (result ≡ Err TakeFault.TooLong) ↔ (1048576 < length bytes.now) }
-        ensures bad_text { IsExact TakeFault.BadText (IsBadText bytes.now) result }
-        ensures other_team { IsExact TakeFault.OtherTeam (IsOfOther self.now.team bytes.now) result }
-        ensures bad_signature { IsExact TakeFault.BadSignature (IsUnverified self.now.team bytes.now) result }
-        ensures name_clash { (n : List ℕ) → IsExact (TakeFault.NameClash n) (Clashes self.now bytes.now n) result }
-        ensures full { (held size : ℕ) → IsExact (TakeFault.Full held size) (IsFull self.now bytes.now held size) result }
+        ensures fault { IfErr result (λ fault. IsCaused self.now bytes.now fault) }
     {
-        match read_of_team(self.alloc, bytes, &self.team) {
-            Ok(link) => match self.admit(&link, bytes.len()) {
-                Ok(()) => Ok(link),
-                Err(fault) => Err(fault),
-            },
-            Err(fault) => Err(fault),
-        }
+        let link = read_named_of_team(self.alloc, bytes, name, &self.team)?;
+        self.admit(&link, bytes.len())?;
+        Ok(link)
     }
 
     /// Holds a link that was read already: a new one of the team, for which there is room. It isn't verified again.
@@ -228,27 +217,23 @@ impl Graph {
     }
 
     /// Takes the text of a link. After a fault all is as before. A text that is held is answered without memory.
+    ///
+    /// A text is hashed once, and one that is too long isn't hashed. The team is asked before the signature is verified.
     pub fn take(&mut self, bytes: &[u8]) -> Result<Took, TakeFault>
-        ensures taken { IfOk result (λ took. IsTaken self.old self.new bytes.now took) }
-        ensures again { HasText self.old.links bytes.now → result ≡ Ok Took.Again }
-        ensures fault { OnErr result (self.new ≡ self.old) }
-        ensures too_long { (result ≡ Err TakeFault.TooLong) ↔ (1048576 < length bytes.now) }
-        ensures bad_text { IsExact TakeFault.BadText (IsBadText bytes.now) result }
-        ensures other_team { IsExact TakeFault.OtherTeam (IsOfOther self.old.team bytes.now) result }
-        ensures bad_signature { IsExact TakeFault.BadSignature (IsUnverified self.old.team bytes.now) result }
-        ensures name_clash { (n : List ℕ) → IsExact (TakeFault.NameClash n) (Clashes self.old bytes.now n) result }
-        ensures full { (held size : ℕ) → IsExact (TakeFault.Full held size) (IsFull self.old bytes.now held size) result }
+        ensures { Answers self.old self.new bytes.now result }
     {
-        if has_text(&self.web.holding, bytes) {
+        if bytes.len() > MOST_LINK_BYTES {
+            // A law: it does nothing at run time.
+            self.is_held();
+            return Err(TakeFault::TooLong);
+        }
+        let name = name_of(bytes);
+        if has_text(&self.web.holding, bytes, &name) {
             return Ok(Took::Again);
         }
-        match self.read_new(bytes) {
-            Ok(link) => {
-                let took = self.hold(bytes, link)?;
-                Ok(took)
-            }
-            Err(fault) => Err(fault),
-        }
+        let link = self.read_new(bytes, name)?;
+        let took = self.hold(bytes, link)?;
+        Ok(took)
     }
 
     /// Lets go of the text that was taken last. It takes no memory.

@@ -1,5 +1,6 @@
 //! How many bytes of a team file a link takes.
 ghost use Rattle.std.specs.Prelude.{◌≡◌, ◌≤◌, ◌+◌, length, decimal};
+ghost use Rattle.tg_text.specs.Limits.{most_link_bytes};
 ghost use Rattle.link_text.specs.TeamFile.{header};
 ghost use Rattle.link_graph.specs.Sizes.{frame_length};
 
@@ -17,7 +18,7 @@ fn count_digits(n: u64) -> u64
 
 /// How many bytes the frame of a text of so many bytes has.
 pub(crate) fn frame_length(len: usize) -> u64
-    requires { len ≤ 1048576 }
+    requires { len ≤ most_link_bytes }
     ensures length { result ≡ frame_length len }
     ensures small { result ≤ 1048602 }
 {

@@ -22,7 +22,7 @@ pub(crate) fn is_before(a: &LinkName, b: &LinkName) -> bool
     a.cmp(b).is_lt()
 }
 
-/// Where a link goes among the positions of an order: before the first that stands behind all its parents and has a greater name,
+/// Where a link goes among the positions of an order: before the first that stands after all its parents and has a greater name,
 /// or last.
 pub(crate) fn place_in_order(connected: &Connected, order: &[u32], link: &Link) -> usize
     requires given { All (λ p. p < length connected.now) order.now }

@@ -1,4 +1,4 @@
-use link_text::TextFault;
+use link_text::TeamLinkFault;
 use tg_text::{LinkName, Memory};
 use thiserror::Error;
 
@@ -22,17 +22,19 @@ pub enum TakeFault {
     Memory,
 }
 
-impl From<TextFault> for TakeFault {
+impl From<TeamLinkFault> for TakeFault {
     ghost use Rattle.std.specs.Prelude.{◌≡◌};
     ghost use Rattle.link_graph.specs.Faults.{fault_of};
 
     ghost from_gives = { λ fault e. e ≡ fault_of fault };
 
-    fn from(fault: TextFault) -> Self {
+    fn from(fault: TeamLinkFault) -> Self {
         match fault {
-            TextFault::TooLong => TakeFault::TooLong,
-            TextFault::BadText => TakeFault::BadText,
-            TextFault::Memory => TakeFault::Memory,
+            TeamLinkFault::TooLong => TakeFault::TooLong,
+            TeamLinkFault::BadText => TakeFault::BadText,
+            TeamLinkFault::OtherTeam => TakeFault::OtherTeam,
+            TeamLinkFault::BadSignature => TakeFault::BadSignature,
+            TeamLinkFault::Memory => TakeFault::Memory,
         }
     }
 }

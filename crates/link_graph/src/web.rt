@@ -1,12 +1,13 @@
 //! The parts of a graph together: a link is put in, or the one that came last is taken out.
 ghost use Rattle.std.specs.Prelude.{◌≡◌, ◌-◌, ◌<◌, ◌≤◌, ◌++◌, ◌∷◌, ℕ, List, [], length, take, false, IfOk, OnOk, OnErr};
 ghost use Rattle.std.specs.List.{range_with_len};
+ghost use Rattle.tg_text.specs.Limits.{most_links};
 ghost use Rattle.team_sets.specs.Names.{has_name};
 ghost use Rattle.team_sets.specs.Order.{names};
 ghost use Rattle.team_model.specs.Judging.{name_of};
 ghost use Rattle.link_text.specs.LinkText.{text};
 ghost use Rattle.link_graph.specs.Held.{arrived_of, answer_of, took_of};
-ghost use Rattle.link_graph.specs.Kin.{HasKids};
+ghost use Rattle.link_graph.specs.Children.{HasChildren};
 ghost use Rattle.link_graph.specs.Lines.{HasRoom};
 ghost use Rattle.link_graph.specs.Webs.{IsAwaiting, IsUnlined, IsWeb, without_last};
 
@@ -48,8 +49,8 @@ fn answer(alloc: Global, before: u32, now: u32) -> Result<Took, Memory>
 }
 
 /// Takes the memory that the connected links need to line up, and for the answer.
-fn prepare(alloc: Global, lineup: &mut Lineup, before: usize, now: usize) -> Result<Took, Memory>
-    requires few { now ≤ 16384 }
+fn make_room(alloc: Global, lineup: &mut Lineup, before: usize, now: usize) -> Result<Took, Memory>
+    requires few { now ≤ most_links }
     requires more { before ≤ now }
     ensures order { lineup.new.order.items ≡ lineup.old.order.items }
     ensures heads { lineup.new.heads.items ≡ lineup.old.heads.items }
@@ -77,9 +78,9 @@ impl Web {
     /// Lets those links line up that have connected since there were so many. Without memory for it they aren't connected.
     fn line_up(&mut self, alloc: Global, before: usize) -> Result<Took, Memory>
         requires unlined { IsUnlined self.old before }
-        requires kids { HasKids self.old.holding self.old.children.lists }
+        requires children { HasChildren self.old.holding self.old.children.lists }
         ensures held { self.new.holding ≡ self.old.holding }
-        ensures kin { self.new.children ≡ self.old.children }
+        ensures children { self.new.children ≡ self.old.children }
         ensures ok { OnOk result (IsWeb self.new) }
         ensures answer { IfOk result (λ took. took ≡ took_of before (length (arrived_of self.old.holding))) }
         ensures err { OnErr result (self.new.connected ≡ take before self.old.connected) }
@@ -87,7 +88,7 @@ impl Web {
         ensures heads { OnErr result (self.new.lineup.heads.items ≡ self.old.lineup.heads.items) }
         ensures room { OnErr result ((n : ℕ) → HasRoom n self.old.lineup → HasRoom n self.new.lineup) }
     {
-        match prepare(alloc, &mut self.lineup, before, self.connected.len()) {
+        match make_room(alloc, &mut self.lineup, before, self.connected.len()) {
             Ok(took) => {
                 self.lineup.add_all(self.holding.links(), &self.connected);
                 Ok(took)
@@ -102,31 +103,29 @@ impl Web {
     /// Lets the link that came last connect, if it may, and those that waited for it.
     fn connect_last(&mut self, alloc: Global) -> Result<Took, Memory>
         requires awaiting { IsAwaiting self.old }
-        requires kids { HasKids self.old.holding self.old.children.lists }
+        requires children { HasChildren self.old.holding self.old.children.lists }
         ensures held { self.new.holding ≡ self.old.holding }
-        ensures kin { self.new.children ≡ self.old.children }
+        ensures children { self.new.children ≡ self.old.children }
         ensures ok { OnOk result (IsWeb self.new) }
         ensures answer { IfOk result (λ took. took ≡ answer_of (without_last self.old.holding) self.old.holding) }
         ensures err { OnErr result (IsAwaiting self.new) }
         ensures entries { OnErr result (self.new.connected ≡ self.old.connected) }
     {
         let before = self.connected.len();
-        match connect(alloc, &self.holding, &self.children, &mut self.connected) {
-            Ok(()) => self.line_up(alloc, before),
-            Err(memory) => Err(memory),
-        }
+        connect(alloc, &self.holding, &self.children, &mut self.connected)?;
+        self.line_up(alloc, before)
     }
 
     /// Makes the link that came last a child of its parents.
     fn add_to_parents(&mut self, alloc: Global) -> Result<(), Memory>
         requires some { 0 < length self.old.holding }
-        requires few { length self.old.holding ≤ 16384 }
-        requires kids { HasKids (without_last self.old.holding) self.old.children.lists }
+        requires few { length self.old.holding ≤ most_links }
+        requires children { HasChildren (without_last self.old.holding) self.old.children.lists }
         ensures held { self.new.holding ≡ self.old.holding }
         ensures connected { self.new.connected ≡ self.old.connected }
         ensures lineup { self.new.lineup ≡ self.old.lineup }
-        ensures ok { OnOk result (HasKids self.old.holding self.new.children.lists) }
-        ensures err { OnErr result (HasKids (without_last self.old.holding) self.new.children.lists) }
+        ensures ok { OnOk result (HasChildren self.old.holding self.new.children.lists) }
+        ensures err { OnErr result (HasChildren (without_last self.old.holding) self.new.children.lists) }
     {
         let last = self.holding.len() - 1;
         let link = &self.holding.links()[last];
@@ -136,11 +135,11 @@ impl Web {
     /// Takes the link that came last away from its parents.
     fn remove_from_parents(&mut self)
         requires some { 0 < length self.old.holding }
-        requires kids { HasKids self.old.holding self.old.children.lists }
+        requires children { HasChildren self.old.holding self.old.children.lists }
         ensures held { self.new.holding ≡ self.old.holding }
         ensures connected { self.new.connected ≡ self.old.connected }
         ensures lineup { self.new.lineup ≡ self.old.lineup }
-        ensures kids { HasKids (without_last self.old.holding) self.new.children.lists }
+        ensures children { HasChildren (without_last self.old.holding) self.new.children.lists }
     {
         let last = self.holding.len() - 1;
         let link = &self.holding.links()[last];
@@ -150,17 +149,15 @@ impl Web {
     /// Puts the link that came last into the web.
     fn link_last(&mut self, alloc: Global) -> Result<Took, Memory>
         requires awaiting { IsAwaiting self.old }
-        requires kids { HasKids (without_last self.old.holding) self.old.children.lists }
+        requires children { HasChildren (without_last self.old.holding) self.old.children.lists }
         ensures held { self.new.holding ≡ self.old.holding }
         ensures ok { OnOk result (IsWeb self.new) }
         ensures answer { IfOk result (λ took. took ≡ answer_of (without_last self.old.holding) self.old.holding) }
         ensures err { OnErr result (IsAwaiting self.new) }
-        ensures kids { OnErr result (HasKids (without_last self.old.holding) self.new.children.lists) }
+        ensures children { OnErr result (HasChildren (without_last self.old.holding) self.new.children.lists) }
         ensures entries { OnErr result (self.new.connected ≡ self.old.connected) }
     {
-        if let Err(memory) = self.add_to_parents(alloc) {
-            return Err(memory);
-        }
+        self.add_to_parents(alloc)?;
         match self.connect_last(alloc) {
             Ok(took) => Ok(took),
             Err(memory) => {
@@ -172,7 +169,7 @@ impl Web {
 
     /// Puts in a link of a new name.
     pub(crate) fn put(&mut self, alloc: Global, bytes: &[u8], link: Link) -> Result<Took, Memory>
-        requires few { length self.old.holding < 16384 }
+        requires few { length self.old.holding < most_links }
         requires text { bytes.now ≡ text link }
         requires fresh { has_name (names name_of self.old.holding) link.name ≡ false }
         requires web { IsWeb self.old }
@@ -181,9 +178,7 @@ impl Web {
         ensures answer { IfOk result (λ took. took ≡ answer_of self.old.holding (self.old.holding ++ link ∷ [])) }
         ensures err { OnErr result (self.new.holding ≡ self.old.holding) }
     {
-        if let Err(memory) = self.holding.push(alloc, bytes, link) {
-            return Err(memory);
-        }
+        self.holding.push(alloc, bytes, link)?;
         match self.link_last(alloc) {
             Ok(took) => Ok(took),
             Err(memory) => {

@@ -1,11 +1,10 @@
-use Rattle.std.proofs.Common.{◌≡◌, ◌∙◌, ◌++◌, ◌∷◌, [], append_assoc, append-nil, ◌≤◌, refl, ap, sym, subst, arith, true, false, length, List, ℕ}
+use Rattle.std.proofs.Common.{◌≡◌, ◌∙◌, ◌++◌, ◌∷◌, [], append_assoc, append-nil, refl, ap, sym, subst, arith, true, length, List}
 use Rattle.std.specs.Map.{keys_of}
 use Rattle.team_sets.specs.Names.{Name, has_name}
-use Rattle.team_sets.specs.Order.{names, order_after}
-use Rattle.team_model.specs.Judging.{name_of, prev_of}
-use Rattle.team_model.specs.declared.terms.Link.{Link}
+use Rattle.team_sets.specs.Order.{names}
+use Rattle.team_model.specs.Judging.{name_of}
 use Rattle.link_graph.specs.Positions.{HasEntries, IsReady, linked}
-use Rattle.link_graph.proofs.Fitting.{children_range, entries_push, follow_end, follow_next, follow_none, follow_short, held_within, in_links, keys_linked, keys_push, linked_push, named_at, no_keys}
+use Rattle.link_graph.proofs.Fitting.{children_range, entries_push, follow_end, follow_next, follow_short, held_within, in_links, keys_linked, keys_push, linked_push, named_at, no_keys}
 use Rattle.link_graph.proofs.Names.{has_by_order}
 use Rattle.link_graph.proofs.NextOnes.{added_so, first_ready, lower, none_ready, popped_has, ready_fresh, ready_held, ready_next}
 use Rattle.link_graph.proofs.connecting.connect_ready.Goals as goal
@@ -43,7 +42,7 @@ push-requires c = record {
 
 pub add_ready-requires : goal.add_ready-requires
 add_ready-requires c = record {
-  range = children_range c.args.holding.now c.links.result.now c.in-Some.name c.of.result.now _ c.links.ensures c.of.ensures (c.requires.kids c.in-Some.name);
+  range = children_range c.args.holding.now c.links.result.now c.in-Some.name c.of.result.now _ c.links.ensures c.of.ensures (c.requires.children c.in-Some.name);
 }
 
 pub loop-preserved : goal.loop-preserved
@@ -73,7 +72,7 @@ loop-preserved c =
       );
       ready = subst (λ (l : List Name). IsReady c.args.holding.now l c.add_ready.new.ready.keys) (sym keys)
           (ready_next c.args.holding.now (keys_of c.loop.connected) c.in-Some.name c.loop.ready.keys c.pop_first.new.self.keys c.add_ready.new.ready.keys c.of.result.now c.loop.invariant.ready fresh
-          (λ n. popped_has c.in-Some.name n c.loop.ready.keys c.pop_first.new.self.keys (c.in-Some.ensures.updates.0 n)) (c.of.ensures ∙ c.requires.kids c.in-Some.name)
+          (λ n. popped_has c.in-Some.name n c.loop.ready.keys c.pop_first.new.self.keys (c.in-Some.ensures.updates.0 n)) (c.of.ensures ∙ c.requires.children c.in-Some.name)
           (λ n. added_so c.pop_first.new.self.keys c.add_ready.new.ready.keys n c.links.result.now c.args.holding.now c.of.result.now (keys_of c.push.new.self) (keys_of c.loop.connected ++ c.in-Some.name ∷ []) c.links.ensures keys (c.in_ok-add_ready.ensures.ok n)));
       follow = next.0;
       few = next.1;

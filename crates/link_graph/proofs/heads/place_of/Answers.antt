@@ -1,5 +1,5 @@
-use Rattle.std.proofs.Common.{◌∙◌, ◌+◌, ℕ, ap, sym, arith}
-use Rattle.link_graph.proofs.HeadNames.{place_here, place_next}
+use Rattle.std.proofs.Common.{◌∙◌, sym, arith}
+use Rattle.link_graph.proofs.HeadNames.{place_here}
 use Rattle.link_graph.proofs.heads.place_of.Goals as goal
 
 pub returns-then-is_before-clause-place : goal.returns-then-is_before-clause-place

@@ -1,4 +1,4 @@
-use Rattle.std.proofs.Common.{ap, ◌∙◌, List, BTreeSet}
+use Rattle.std.proofs.Common.{ap, ◌∙◌, BTreeSet}
 use Rattle.std.specs.Map.{keys_of}
 use Rattle.team_sets.specs.Names.{Name, has_name}
 use Rattle.link_graph.proofs.NextOnes.{pushed_has, ready_then, ready_else}

@@ -1,4 +1,3 @@
-use Rattle.std.proofs.Common.{◌∙◌}
 use Rattle.indexmap.proofs.CallerLemmas.{insert_entry-new}
 use Rattle.team_sets.specs.Names.{same_name}
 use Rattle.link_graph.proofs.Names.{lookup_absent}

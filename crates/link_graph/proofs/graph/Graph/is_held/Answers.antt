@@ -1,4 +1,5 @@
 use Rattle.std.proofs.Common.{◌≤◌, subst}
+use Rattle.tg_text.specs.Limits.{most_file_bytes}
 use Rattle.link_graph.proofs.graph.Graph.is_held.Goals as goal
 
 pub returns : goal.returns
@@ -9,5 +10,5 @@ returns c =
       valid = c.self.invariant.valid;
       set = c.self.invariant.fits.set;
       few = c.self.invariant.fits.few;
-      short = subst (λ n. n ≤ 268435456) c.self.invariant.size c.self.invariant.short;
+      short = subst (λ n. n ≤ most_file_bytes) c.self.invariant.size c.self.invariant.short;
     })

@@ -1,4 +1,4 @@
-use Rattle.std.proofs.Common.{◌≡◌, ◌∙◌, sym, ap, arith, List, ℕ, length}
+use Rattle.std.proofs.Common.{◌∙◌, sym, ap, arith, List, length}
 use Rattle.team_model.specs.declared.terms.Link.{Link}
 use Rattle.link_text.specs.TeamFile.{file_text}
 use Rattle.link_graph.proofs.Facts.{empty_size}

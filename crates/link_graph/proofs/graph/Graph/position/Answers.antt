@@ -1,4 +1,4 @@
-use Rattle.std.proofs.Common.{◌≡◌, ◌∙◌, sym, ap, subst, arith, position, length, ℕ, List}
+use Rattle.std.proofs.Common.{◌∙◌, sym, ap, arith, position, ℕ, List}
 use Rattle.std.proofs.lemmas.List.{length-map}
 use Rattle.std.specs.Map.{keys_of}
 use Rattle.team_sets.specs.Names.{Name, same_name}

@@ -1,7 +1,6 @@
-use Rattle.std.proofs.Common.{◌≡◌, ◌∙◌, ◌+◌, ◌<◌, ◌≤◌, sym, ap, arith, List, ℕ, length}
+use Rattle.std.proofs.Common.{ap, arith, List, length}
 use Rattle.team_model.specs.declared.terms.Link.{Link}
 use Rattle.link_text.specs.TeamFile.{file_text}
-use Rattle.link_graph.specs.Sizes.{frame_length}
 use Rattle.link_graph.proofs.Facts.{last_short, last_size, others_valid}
 use Rattle.link_graph.proofs.graph.Graph.undo.Goals as goal
 

@@ -1,5 +1,4 @@
-use Rattle.std.proofs.Common.{◌∙◌, ap, List}
-use Rattle.team_sets.specs.Names.{Name, has_name}
+use Rattle.std.proofs.Common.{◌∙◌}
 use Rattle.link_graph.proofs.Names.{has_texts}
 use Rattle.link_graph.proofs.holding.Holding.holds.Goals as goal
 

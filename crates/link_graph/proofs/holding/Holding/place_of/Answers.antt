@@ -1,4 +1,4 @@
-use Rattle.std.proofs.Common.{◌∙◌, ap, sym}
+use Rattle.std.proofs.Common.{◌∙◌, sym}
 use Rattle.link_graph.proofs.Names.{has_texts, some_named, place_texts}
 use Rattle.link_graph.proofs.holding.Holding.place_of.Goals as goal
 

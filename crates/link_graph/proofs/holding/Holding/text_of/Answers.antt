@@ -1,5 +1,4 @@
-use Rattle.std.proofs.Common.{◌≡◌, ◌∙◌, ap, sym, List, ℕ, Some, Option, option_map}
-use Rattle.std.specs.Option.{option_copied}
+use Rattle.std.proofs.Common.{◌∙◌, ap, List, ℕ, Some}
 use Rattle.link_graph.proofs.Names.{texts_named}
 use Rattle.link_graph.proofs.holding.Holding.text_of.Goals as goal
 

@@ -1,9 +1,7 @@
-use Rattle.std.proofs.Common.{◌≡◌, ◌∙◌, ◌≤◌, ◌<◌, ◌+◌, ap, sym, subst, arith, length, take, List, Some, slice_get}
-use Rattle.std.specs.Vec.{vec_capacity}
-use Rattle.team_model.specs.declared.terms.Link.{Link}
+use Rattle.std.proofs.Common.{◌≡◌, ◌∙◌, ◌<◌, sym, subst, arith, length, take, Some, slice_get}
 use Rattle.link_graph.specs.Lines.{IsLineup}
 use Rattle.link_graph.specs.Positions.{linked}
-use Rattle.link_graph.proofs.Fitting.{entry_at, length-linked}
+use Rattle.link_graph.proofs.Fitting.{entry_at}
 use Rattle.link_graph.proofs.Names.{get_within}
 use Rattle.link_graph.proofs.Rows.{row_heads, row_more, row_range, row_size, row_whole, row_within}
 use Rattle.link_graph.proofs.lineup.Lineup.add_all.Goals as goal

@@ -1,4 +1,4 @@
-use Rattle.std.proofs.Common.{◌≡◌, ◌≤◌, length, take}
+use Rattle.std.proofs.Common.{◌≤◌, length, take}
 use Rattle.link_graph.specs.Lines.{HasRoom, IsLineup}
 use Rattle.link_graph.specs.Positions.{linked}
 use Rattle.link_graph.proofs.lineup.Lineup.add_all.Given as goal

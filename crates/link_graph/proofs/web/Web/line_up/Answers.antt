@@ -1,14 +1,12 @@
-use Rattle.std.proofs.Common.{◌≡◌, ◌∙◌, ◌≤◌, ap, sym, subst, arith, length, take, List, ℕ}
-use Rattle.team_sets.specs.OrderLaws.{ParentsFirst}
-use Rattle.team_model.specs.Judging.{name_of, prev_of}
+use Rattle.std.proofs.Common.{◌∙◌, ap, arith, List, ℕ}
 use Rattle.team_model.specs.declared.terms.Link.{Link}
 use Rattle.link_graph.specs.Held.{arrived_of, took_of}
 use Rattle.link_graph.specs.Positions.{linked}
 use Rattle.link_graph.proofs.Webbing.{arrived_first, arrived_within, count_of}
 use Rattle.link_graph.proofs.web.Web.line_up.Goals as goal
 
-pub prepare-requires : goal.prepare-requires
-prepare-requires c =
+pub make_room-requires : goal.make_room-requires
+make_room-requires c =
     let u = c.requires.unlined in
     let count = count_of c.args.self.now.holding (arrived_of c.args.self.now.holding) c.args.self.now.connected c.len.result u.entries u.linked c.len.ensures in
     let within = arrived_within c.args.self.now.holding u.set in

@@ -1,4 +1,4 @@
-use Rattle.std.proofs.Common.{◌∙◌, ap, sym, subst, List}
+use Rattle.std.proofs.Common.{◌∙◌, subst, List}
 use Rattle.team_model.specs.declared.terms.Link.{Link}
 use Rattle.link_graph.specs.Lines.{IsLineup}
 use Rattle.link_graph.specs.Positions.{linked}
@@ -24,5 +24,5 @@ pub returns-clause-web : goal.returns-clause-web
 returns-clause-web c =
     let is = cut_is c.args.self.now c.remove_from_parents.new.self.holding c.pop.new.self c.truncate.new.self c.remove_from_parents.new.self.connected c.args.connected c.requires.web c.requires.some c.requires.connected
     c.remove_from_parents.ensures.held c.remove_from_parents.ensures.connected c.truncate.ensures c.pop.ensures in
-    web_cut c.args.self.now _ c.remove_from_parents.new.self.holding c.requires.web c.requires.some c.remove_from_parents.ensures.held c.pop.ensures c.remove_from_parents.ensures.kids is.entries is.linked_is
+    web_cut c.args.self.now _ c.remove_from_parents.new.self.holding c.requires.web c.requires.some c.remove_from_parents.ensures.held c.pop.ensures c.remove_from_parents.ensures.children is.entries is.linked_is
     (subst (λ (l : List Link). IsLineup (linked l c.truncate.new.self) c.add_all.new.self) c.links.ensures c.add_all.ensures.whole) c.add_all.ensures.room

@@ -1,13 +1,12 @@
 -- Lists of children, as links come and go.
-use Rattle.std.proofs.Common.{◌≡◌, ◌+◌, ◌-◌, ◌<◌, ◌≤◌, ℕ, zero, suc, Bool, true, false, cond, if◌then◌else◌, List, [], ◌∷◌, ◌++◌, append_assoc, append-nil, Option, Some, None, refl, sym, ◌∙◌, ap, subst, length, take, drop, map, filter, get_or, slice_get, add-one, drop-cons, arith}
+use Rattle.std.proofs.Common.{◌≡◌, ◌+◌, ◌-◌, ◌<◌, ◌≤◌, ℕ, suc, Bool, true, false, cond, if◌then◌else◌, List, [], ◌∷◌, ◌++◌, append_assoc, append-nil, Option, Some, None, refl, sym, ◌∙◌, ap, subst, length, take, drop, map, filter, get_or, add-one, drop-cons, arith}
 use Rattle.std.specs.Global.{Vec}
 use Rattle.std.specs.HashMap.{HashMap, get}
 use Rattle.std.specs.Option.{option_map_or}
 use Rattle.std.specs.Cmp.Lexicographic.{bytes_decides}
 use Rattle.std.proofs.lemmas.List.{drop_all, length_push}
-use Rattle.team_sets.specs.Names.{Name, same_name, has_name}
-use Rattle.team_model.specs.declared.terms.Link.{Link}
-use Rattle.link_graph.specs.Kin.{kids, named, child_places}
+use Rattle.team_sets.specs.Names.{Name, same_name}
+use Rattle.link_graph.specs.Children.{children_of, named}
 
 pub named-more : (place : ℕ) (ps : List Name) (p n : Name) → named place (p ∷ ps) n ≡ cond (same_name p n) (place ∷ named place ps n) (named place ps n)
 named-more place ps p n = go (same_name p n)
@@ -63,29 +62,29 @@ named-push place (q ∷ qs) p n =
     go false h = h
 
 -- a list that another takes the place of, with the same places
-pub kids_same : {S R : Type 0} (lists : HashMap Name (Vec ℕ) S) (new : HashMap Name (Vec ℕ) R) (p : Name) (v w : Vec ℕ)
+pub children_same : {S R : Type 0} (lists : HashMap Name (Vec ℕ) S) (new : HashMap Name (Vec ℕ) R) (p : Name) (v w : Vec ℕ)
     → ((q : Name) → get same_name new q ≡ cond (same_name p q) (Some w) (get same_name lists q)) → Some v ≡ get same_name lists p → w.items ≡ v.items
-    → (n : Name) → kids new n ≡ kids lists n
-kids_same lists new p v w has old same n = go (same_name p n) refl (has n)
+    → (n : Name) → children_of new n ≡ children_of lists n
+children_same lists new p v w has old same n = go (same_name p n) refl (has n)
   where
     list_of : Option (Vec ℕ) → List ℕ
     list_of o = option_map_or (λ (u : Vec ℕ). u.items) o []
 
-    go : (b : Bool) → same_name p n ≡ b → get same_name new n ≡ cond b (Some w) (get same_name lists n) → kids new n ≡ kids lists n
+    go : (b : Bool) → same_name p n ≡ b → get same_name new n ≡ cond b (Some w) (get same_name lists n) → children_of new n ≡ children_of lists n
     go true e h = ap list_of h ∙ same ∙ ap list_of (subst (λ (m : Name). Some v ≡ get same_name lists m) ((bytes_decides p n).0 e) old)
     go false e h = ap list_of h
 
 -- the first list of a name
-pub kids_insert : {S R : Type 0} (lists : HashMap Name (Vec ℕ) S) (new : HashMap Name (Vec ℕ) R) (p : Name) (v : Vec ℕ) (place : ℕ)
+pub children_insert : {S R : Type 0} (lists : HashMap Name (Vec ℕ) S) (new : HashMap Name (Vec ℕ) R) (p : Name) (v : Vec ℕ) (place : ℕ)
     → ((q : Name) → get same_name new q ≡ cond (same_name p q) (Some v) (get same_name lists q)) → None ≡ get same_name lists p → v.items ≡ place ∷ []
-    → (n : Name) → kids new n ≡ kids lists n ++ (if same_name p n then place ∷ [] else [])
-kids_insert lists new p v place has none one n = go (same_name p n) refl (has n)
+    → (n : Name) → children_of new n ≡ children_of lists n ++ (if same_name p n then place ∷ [] else [])
+children_insert lists new p v place has none one n = go (same_name p n) refl (has n)
   where
     list_of : Option (Vec ℕ) → List ℕ
     list_of o = option_map_or (λ (w : Vec ℕ). w.items) o []
 
-    go : (b : Bool) → same_name p n ≡ b → get same_name new n ≡ cond b (Some v) (get same_name lists n) → kids new n ≡ kids lists n ++ (if b then place ∷ [] else [])
+    go : (b : Bool) → same_name p n ≡ b → get same_name new n ≡ cond b (Some v) (get same_name lists n) → children_of new n ≡ children_of lists n ++ (if b then place ∷ [] else [])
     go true e h =
         let gone : None ≡ get same_name lists n = subst (λ (m : Name). None ≡ get same_name lists m) ((bytes_decides p n).0 e) none in
         ap list_of h ∙ one ∙ ap (λ o. list_of o ++ place ∷ []) gone
-    go false e h = ap list_of h ∙ sym (append-nil (kids lists n))
+    go false e h = ap list_of h ∙ sym (append-nil (children_of lists n))
