@@ -1,5 +1,6 @@
 -- A bundle: any sequence of header lines and frames, and the faults that may stand in an item's place.
 use Rattle.std.specs.Prelude.{◌≡◌, ℕ, ◌<◌, ◌≤◌, ◌^◌, ◌⊎◌, List, [], ◌∷◌, ◌++◌, length, take, codes}
+use Rattle.tg_text.specs.Limits.{most_file_bytes}
 use Rattle.tg_text.specs.Spelling.{IsHash, line_of, spell_decimal}
 use Rattle.link_text.specs.TeamFile.{frame, header}
 use Rattle.team_files.specs.declared.item.Item.{Item}
@@ -55,6 +56,6 @@ pub record IsJudged (limit : ℕ) (kept more : List ℕ) (items : List Item) : T
   pub within : length more ≤ limit → IsItems (kept ++ more) items
   pub longer : limit < length more → (found : List Item) × IsItems (kept ++ take limit more) found × (items ≡ long_of found)
 
--- the items of a bundle, of which 268,435,456 bytes are judged
+-- the items of a bundle, of which as many bytes are judged as a team file may have
 abbrev pub IsBundle : List ℕ → List Item → Type 0
-IsBundle input items = IsJudged 268435456 [] input items
+IsBundle input items = IsJudged most_file_bytes [] input items

@@ -2,6 +2,7 @@
 use Rattle.std.specs.Prelude.{◌≡◌, ℕ, ◌<◌, ◌≤◌, List, [], ◌∷◌, length, map, codes, flat_map, IsTrue, Result, Ok, Err}
 use Rattle.std.specs.List.{AllByRecursion}
 use Rattle.std.specs.Option.{option_map_or}
+use Rattle.tg_text.specs.Limits.{most_links}
 use Rattle.tg_text.specs.Spelling.{spell_decimal, spell_hex, spaced}
 use Rattle.team_sets.specs.Names.{Name, name_lt}
 use Rattle.team_model.specs.Judging.{name_of}
@@ -40,14 +41,14 @@ IsBefore (x ∷ y ∷ ys) n = IsBefore (y ∷ ys) n
 
 -- a further link may stand behind the links
 pub record MayFollow (links : List Link) (l : Link) : Type 0 where
-  pub room : length links < 16384
+  pub room : length links < most_links
   pub before : IsBefore links l.name
 
 -- links of the team in strictly ascending order of names, no more than a team may have
 pub record AreInOrder (t : Name) (links : List Link) : Type 0 where
   pub valid : AllByRecursion (λ l. IsValid t (text l) l) links
   pub ascend : Ascends (map name_of links)
-  pub few : length links ≤ 16384
+  pub few : length links ≤ most_links
 
 -- what may be answered where this is what is spelled
 abbrev pub Gives : {X : Type 0} → X → Result X FileFault → Type 0

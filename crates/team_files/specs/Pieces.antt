@@ -1,4 +1,5 @@
 -- A bundle that comes in pieces: what is kept between them, and what each piece answers.
+use Rattle.tg_text.specs.Limits.{most_file_bytes}
 use Rattle.std.specs.Prelude.{◌≡◌, ◌↔◌, ℕ, Bool, true, false, List, [], ◌∷◌, ◌++◌, Option, Some, None}
 use Rattle.std.specs.List.{concat}
 use Rattle.team_files.specs.declared.item.Item.{Item}
@@ -12,7 +13,7 @@ pub record Pending : Type 0 where
 
 -- nothing has come
 abbrev pub started : Pending
-started = record { kept = []; left = 268435456; over = false }
+started = record { kept = []; left = most_file_bytes; over = false }
 
 abbrev pub Comes : Bool → ℕ → List ℕ → List ℕ → List Item → Type 0
 Comes true left kept more items = items ≡ []

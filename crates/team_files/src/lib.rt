@@ -8,8 +8,6 @@
 
 mod bundle;
 mod bundle_laws;
-#[cfg(test)]
-mod bundle_tests;
 mod fault;
 mod first;
 mod frames;
@@ -20,8 +18,6 @@ mod links;
 mod names;
 mod next;
 mod reading;
-#[cfg(test)]
-mod tests;
 mod writing;
 
 pub use bundle::{Bundle, read_items};

@@ -5,33 +5,24 @@ ghost use Rattle.team_files.specs.Frames.{Gives, IsBefore, MayFollow};
 ghost use Rattle.team_model.specs.declared.terms.Link.{Link};
 
 use crate::fault::FileFault;
-use link_text::{LinkFault, is_of_team, read_link};
+use link_text::{TeamLinkFault, read_of_team};
 use std::alloc::Global;
 use team_model::Link;
-use tg_text::{Items, LinkName};
-
-// How many links a team may have.
-const MAX_LINKS: usize = 16384;
+use tg_text::{Items, LinkName, MOST_LINKS};
 
 /// The link that a text is, where it is one of the team. Its signature is verified here, and nowhere again.
 pub fn read_link_of(alloc: Global, team: &LinkName, bytes: &[u8]) -> Result<Link, FileFault>
     ensures found { IfOk result (λ link. IsValid team.now bytes.now link) }
     ensures only { (link : Link) → IsValid team.now bytes.now link → Gives link result }
 {
-    match read_link(alloc, bytes) {
-        Ok(link) => {
-            if is_of_team(&link, team) {
-                Ok(link)
-            } else {
-                Err(FileFault::BadFile)
-            }
-        }
-        Err(LinkFault::Memory) => Err(FileFault::Memory),
+    match read_of_team(alloc, bytes, team) {
+        Ok(link) => Ok(link),
+        Err(TeamLinkFault::Memory) => Err(FileFault::Memory),
         Err(_) => Err(FileFault::BadFile),
     }
 }
 
-/// Adds a link behind the others, where the team has room and the names ascend.
+/// Adds a link after the others, where the team has room and the names ascend.
 pub fn add_link(links: &mut Items<Link>, link: Link) -> Result<(), FileFault>
     ensures ok { OnOk result (links.new ≡ links.old ++ link ∷ []) }
     ensures may { OnOk result (MayFollow links.old link) }
@@ -48,7 +39,7 @@ pub fn add_link(links: &mut Items<Link>, link: Link) -> Result<(), FileFault>
 pub fn may_follow(links: &[Link], link: &Link) -> bool
     ensures { IsTrue result ↔ MayFollow links.now link.now }
 {
-    links.len() < MAX_LINKS && is_before(links, &link.name)
+    links.len() < MOST_LINKS && is_before(links, &link.name)
 }
 
 // Whether the last of the links, if there is one, is before the name.
