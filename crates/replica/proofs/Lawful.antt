@@ -14,7 +14,7 @@ use Rattle.team_model.proofs.PastTeams.{filter_comm, team-past}
 use Rattle.team_model.proofs.Resolved.{none_is_struck}
 use Rattle.team_model.proofs.Teams.{team_is_fold}
 use Rattle.replica.specs.Judged.{ancestors_among, ancestor_rows, flag_at, IsOrdered}
-use Rattle.replica.specs.Places.{picked}
+use Rattle.link_graph.specs.Positions.{at_places}
 use Rattle.replica.proofs.NextRow.{differs, length-order}
 use Rattle.replica.proofs.Picks.{picked_filter, picked_more, take_next}
 use Rattle.replica.proofs.Rows.{filter_end, length-rows, row_at}
@@ -50,8 +50,8 @@ row_is links places rows k x r seen ordered is h at read same =
 
 -- the team of the past of the link at a place is that of its ancestors among the lawful links before it
 pub team_at : (links : List Link) (places : List ℕ) (k : ℕ) (x : Link) (row : List Bool) (found : List ℕ) → IsOrdered links places → slice_get (order_of links) k ≡ Some x
-    → row ≡ ancestors_among links x (take k (order_of links)) → All (λ j. j < k) found → picked (order_of links) found ≡ filter (is_lawful links) (take k (order_of links))
-    → fold_team team_rules (picked (order_of links) (filter (flag_at row) found)) ≡ team team_rules (past_of links x)
+    → row ≡ ancestors_among links x (take k (order_of links)) → All (λ j. j < k) found → at_places (order_of links) found ≡ filter (is_lawful links) (take k (order_of links))
+    → fold_team team_rules (at_places (order_of links) (filter (flag_at row) found)) ≡ team team_rules (past_of links x)
 team_at links places k x row found ordered at flags range is =
     ap (λ l. fold_team team_rules l)
     (picked_filter (order_of links) (flag_at row) (λ y. is_before name_of prev_of links y.name x) found
@@ -65,47 +65,47 @@ team_at links places k x row found ordered at flags range is =
 
 -- what is asked of the link at a place is whether it is lawful
 pub lawful_at : (links : List Link) (places : List ℕ) (rows : List (List Bool)) (k : ℕ) (x : Link) (r row : List Bool) (found seen : List ℕ) (b : Bool) → IsOrdered links places
-    → rows ≡ ancestor_rows links [] (order_of links) → k < length places → slice_get (picked links places) k ≡ Some x → r ≡ get_or rows k r → row ≡ r → seen ≡ found → All (λ j. j < k) found
-    → picked (order_of links) found ≡ filter (is_lawful links) (take k (order_of links))
-    → b ≡ is_none (refusal (fold_team team_rules (picked (picked links places) (filter (flag_at row) seen))) x.entry) → b ≡ is_lawful links x
+    → rows ≡ ancestor_rows links [] (order_of links) → k < length places → slice_get (at_places links places) k ≡ Some x → r ≡ get_or rows k r → row ≡ r → seen ≡ found → All (λ j. j < k) found
+    → at_places (order_of links) found ≡ filter (is_lawful links) (take k (order_of links))
+    → b ≡ is_none (refusal (fold_team team_rules (at_places (at_places links places) (filter (flag_at row) seen))) x.entry) → b ≡ is_lawful links x
 lawful_at links places rows k x r row found seen b ordered is h here read same alike range before answer =
     let at : slice_get (order_of links) k ≡ Some x = ap (λ l. slice_get l k) (sym ordered.order) ∙ here in
     let flags : row ≡ ancestors_among links x (take k (order_of links)) = row_is links places rows k x r row ordered is h at read same in
-    answer ∙ ap (λ l. is_none (refusal (fold_team team_rules (picked l (filter (flag_at row) seen))) x.entry)) ordered.order
-    ∙ ap (λ l. is_none (refusal (fold_team team_rules (picked (order_of links) (filter (flag_at row) l))) x.entry)) alike
+    answer ∙ ap (λ l. is_none (refusal (fold_team team_rules (at_places l (filter (flag_at row) seen))) x.entry)) ordered.order
+    ∙ ap (λ l. is_none (refusal (fold_team team_rules (at_places (order_of links) (filter (flag_at row) l))) x.entry)) alike
     ∙ ap (λ s. is_none (refusal s x.entry)) (team_at links places k x row found ordered at flags range before)
 
-pub found_more : (links : List Link) (places : List ℕ) (k : ℕ) (x : Link) (old new : List ℕ) (b : Bool) → IsOrdered links places → slice_get (picked links places) k ≡ Some x
-    → picked (order_of links) old ≡ filter (is_lawful links) (take k (order_of links)) → b ≡ is_lawful links x → b ≡ true → new ≡ old ++ k ∷ []
-    → picked (order_of links) new ≡ filter (is_lawful links) (take (k + 1) (order_of links))
+pub found_more : (links : List Link) (places : List ℕ) (k : ℕ) (x : Link) (old new : List ℕ) (b : Bool) → IsOrdered links places → slice_get (at_places links places) k ≡ Some x
+    → at_places (order_of links) old ≡ filter (is_lawful links) (take k (order_of links)) → b ≡ is_lawful links x → b ≡ true → new ≡ old ++ k ∷ []
+    → at_places (order_of links) new ≡ filter (is_lawful links) (take (k + 1) (order_of links))
 found_more links places k x old new b ordered here before answer passes is =
     let at : slice_get (order_of links) k ≡ Some x = ap (λ l. slice_get l k) (sym ordered.order) ∙ here in
-    ap (λ l. picked (order_of links) l) is ∙ picked_more (order_of links) old k x at ∙ ap (λ l. l ++ x ∷ []) before
+    ap (λ l. at_places (order_of links) l) is ∙ picked_more (order_of links) old k x at ∙ ap (λ l. l ++ x ∷ []) before
     ∙ sym (filter_end (is_lawful links) (take k (order_of links)) x true (sym answer ∙ passes)) ∙ ap (λ l. filter (is_lawful links) l) (sym (take_next (order_of links) k x at))
 
-pub found_same : (links : List Link) (places : List ℕ) (k : ℕ) (x : Link) (old new : List ℕ) (b : Bool) → IsOrdered links places → slice_get (picked links places) k ≡ Some x
-    → picked (order_of links) old ≡ filter (is_lawful links) (take k (order_of links)) → b ≡ is_lawful links x → b ≡ false → new ≡ old
-    → picked (order_of links) new ≡ filter (is_lawful links) (take (k + 1) (order_of links))
+pub found_same : (links : List Link) (places : List ℕ) (k : ℕ) (x : Link) (old new : List ℕ) (b : Bool) → IsOrdered links places → slice_get (at_places links places) k ≡ Some x
+    → at_places (order_of links) old ≡ filter (is_lawful links) (take k (order_of links)) → b ≡ is_lawful links x → b ≡ false → new ≡ old
+    → at_places (order_of links) new ≡ filter (is_lawful links) (take (k + 1) (order_of links))
 found_same links places k x old new b ordered here before answer fails is =
     let at : slice_get (order_of links) k ≡ Some x = ap (λ l. slice_get l k) (sym ordered.order) ∙ here in
-    ap (λ l. picked (order_of links) l) is ∙ before ∙ sym (append-nil (filter (is_lawful links) (take k (order_of links))))
+    ap (λ l. at_places (order_of links) l) is ∙ before ∙ sym (append-nil (filter (is_lawful links) (take k (order_of links))))
     ∙ sym (filter_end (is_lawful links) (take k (order_of links)) x false (sym answer ∙ fails)) ∙ ap (λ l. filter (is_lawful links) l) (sym (take_next (order_of links) k x at))
 
-pub all_found : (links : List Link) (places : List ℕ) (k : ℕ) (found : List ℕ) → IsOrdered links places → length places ≤ k → picked (order_of links) found ≡ filter (is_lawful links) (take k (order_of links))
-    → picked (order_of links) found ≡ lawful team_rules links
+pub all_found : (links : List Link) (places : List ℕ) (k : ℕ) (found : List ℕ) → IsOrdered links places → length places ≤ k → at_places (order_of links) found ≡ filter (is_lawful links) (take k (order_of links))
+    → at_places (order_of links) found ≡ lawful team_rules links
 all_found links places k found ordered h is =
     let many : length (order_of links) ≡ length places = length-order links places ordered in
     is ∙ ap (λ l. filter (is_lawful links) l) (take_all k (order_of links) (omega arith))
 
 -- the lawful links give the team, and the number that count
-pub team_found : (links : List Link) (places found seen : List ℕ) (s : State) → IsOrdered links places → seen ≡ found → picked (order_of links) found ≡ lawful team_rules links
-    → s ≡ fold_team team_rules (picked (picked links places) seen) → s ≡ team team_rules links
+pub team_found : (links : List Link) (places found seen : List ℕ) (s : State) → IsOrdered links places → seen ≡ found → at_places (order_of links) found ≡ lawful team_rules links
+    → s ≡ fold_team team_rules (at_places (at_places links places) seen) → s ≡ team team_rules links
 team_found links places found seen s ordered alike is folded =
-    folded ∙ ap (λ l. fold_team team_rules (picked l seen)) ordered.order ∙ ap (λ l. fold_team team_rules (picked (order_of links) l)) alike
+    folded ∙ ap (λ l. fold_team team_rules (at_places l seen)) ordered.order ∙ ap (λ l. fold_team team_rules (at_places (order_of links) l)) alike
     ∙ ap (λ l. fold_team team_rules l) (is ∙ sym (none_is_struck links (lawful team_rules links))) ∙ sym (team_is_fold team_rules links (differs links places ordered))
 
-pub count_found : (links : List Link) (places found seen : List ℕ) (n : ℕ) → IsOrdered links places → seen ≡ found → picked (order_of links) found ≡ lawful team_rules links
-    → n ≡ permitted_from team_rules empty_state (picked (picked links places) seen) → n ≡ count_counting links
+pub count_found : (links : List Link) (places found seen : List ℕ) (n : ℕ) → IsOrdered links places → seen ≡ found → at_places (order_of links) found ≡ lawful team_rules links
+    → n ≡ permitted_from team_rules empty_state (at_places (at_places links places) seen) → n ≡ count_counting links
 count_found links places found seen n ordered alike is counted =
-    counted ∙ ap (λ l. permitted_from team_rules empty_state (picked l seen)) ordered.order ∙ ap (λ l. permitted_from team_rules empty_state (picked (order_of links) l)) alike
-    ∙ ap (λ l. permitted_from team_rules empty_state l) (is ∙ sym (none_is_struck links (lawful team_rules links))) ∙ sym (counting links (differs links places ordered))
+    counted ∙ ap (λ l. permitted_from team_rules empty_state (at_places l seen)) ordered.order ∙ ap (λ l. permitted_from team_rules empty_state (at_places (order_of links) l)) alike
+    ∙ ap (λ l. permitted_from team_rules empty_state l) (is ∙ sym (none_is_struck links (lawful team_rules links))) ∙ sym (counting team_rules links (differs links places ordered))

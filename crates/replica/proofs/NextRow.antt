@@ -9,15 +9,15 @@ use Rattle.team_sets.proofs.Distinct.{distinct-differ}
 use Rattle.team_model.specs.Judging.{name_of, prev_of, order_of}
 use Rattle.team_model.specs.declared.terms.Link.{Link}
 use Rattle.replica.specs.Judged.{ancestors_among, ancestor_rows, IsOrdered, or_flags, or_chosen}
-use Rattle.replica.specs.Places.{picked}
-use Rattle.replica.proofs.Picks.{length-picked, some_at, take_next}
+use Rattle.link_graph.specs.Positions.{at_places}
+use Rattle.replica.proofs.Picks.{length-at_places, some_at, take_next}
 use Rattle.replica.proofs.Rows.{or_chosen-drop, or_flags-more, row_at, row_of_parents, length-rows, rows_more}
 
 pub differs : (links : List Link) (places : List ℕ) → IsOrdered links places → NamesDiffer name_of links
 differs links places is = distinct-differ name_of links is.set
 
 pub length-order : (links : List Link) (places : List ℕ) → IsOrdered links places → length (order_of links) ≡ length places
-length-order links places is = sym (ap length is.order) ∙ length-picked links places is.range
+length-order links places is = sym (ap length is.order) ∙ length-at_places links places is.range
 
 pub few_places : (links : List Link) (places : List ℕ) → IsOrdered links places → length places ≤ length links
 few_places links places is = let short = order-le name_of prev_of links in let many : length (order_of links) ≡ length places = length-order links places is in omega arith
@@ -62,11 +62,11 @@ rows_short links xs rows is k d h =
     ∙ length-map (take k xs) (λ (y : Link). is_before name_of prev_of links y.name x.0) ∙ length-take-le k xs within
 
 pub named_length : (links : List Link) (places : List ℕ) (n : ℕ) (f : Link → Bool) (flags : List Bool) → All (λ i. i < length links) places → n ≤ length places
-    → flags ≡ map f (take n (picked links places)) → length flags ≡ n
+    → flags ≡ map f (take n (at_places links places)) → length flags ≡ n
 named_length links places n f flags range h is =
-    let many : length (picked links places) ≡ length places = length-picked links places range in
-    let within : n ≤ length (picked links places) = omega arith in
-    ap length is ∙ length-map (take n (picked links places)) f ∙ length-take-le n (picked links places) within
+    let many : length (at_places links places) ≡ length places = length-at_places links places range in
+    let within : n ≤ length (at_places links places) = omega arith in
+    ap length is ∙ length-map (take n (at_places links places)) f ∙ length-take-le n (at_places links places) within
 
 pub whole_row : (n : ℕ) (a b : List Bool) → length a ≡ length b → n ≡ length b → take n (a ++ drop (length a) b) ≡ a
 whole_row n a b e f =
@@ -75,8 +75,8 @@ whole_row n a b e f =
 
 -- the row that is found is that of the link at the next place
 pub next_is : (links : List Link) (places : List ℕ) (rows : List (List Bool)) (n : ℕ) (ms : List Name) (link x : Link) (flags chosen start row : List Bool) → IsOrdered links places
-    → slice_get (picked links places) n ≡ Some link → slice_get (order_of links) n ≡ Some x → rows ≡ ancestor_rows links [] (take n (order_of links)) → ms ≡ link.prev
-    → flags ≡ map (λ y. has_name ms y.name) (take n (picked links places)) → chosen ≡ flags → start ≡ flags → row ≡ or_chosen chosen rows start
+    → slice_get (at_places links places) n ≡ Some link → slice_get (order_of links) n ≡ Some x → rows ≡ ancestor_rows links [] (take n (order_of links)) → ms ≡ link.prev
+    → flags ≡ map (λ y. has_name ms y.name) (take n (at_places links places)) → chosen ≡ flags → start ≡ flags → row ≡ or_chosen chosen rows start
     → row ≡ ancestors_among links x (take n (order_of links))
 next_is links places rows n ms link x flags chosen start row ordered here at is named f c s r =
     let one : ◌≡◌ {A = Option Link} (Some link) (Some x) = sym here ∙ ap (λ l. slice_get l n) ordered.order ∙ at in

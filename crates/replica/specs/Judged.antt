@@ -4,13 +4,13 @@ use Rattle.team_sets.specs.Ancestry.{is_before}
 use Rattle.team_sets.specs.OrderLaws.{IsSet}
 use Rattle.team_model.specs.Judging.{name_of, prev_of, order_of}
 use Rattle.team_model.specs.declared.terms.Link.{Link}
-use Rattle.replica.specs.Places.{picked}
+use Rattle.link_graph.specs.Positions.{at_places}
 
 -- these are the places of the connected links of the set, in the order of the team
 pub record IsOrdered (links : List Link) (places : List ℕ) : Type 0 where
   pub set : IsSet name_of links
   pub range : All (λ i. i < length links) places
-  pub order : picked links places ≡ order_of links
+  pub order : at_places links places ≡ order_of links
 
 -- which of the links ys are ancestors of x
 abbrev pub ancestors_among : List Link → Link → List Link → List Bool

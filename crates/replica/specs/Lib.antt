@@ -1,3 +1,3 @@
+pub mod Counting
 pub mod Held
 pub mod Judged
-pub mod Places

@@ -2,7 +2,7 @@ ghost use Rattle.std.specs.Prelude.{◌≡◌, ℕ, ◌<◌, ◌≤◌, [], All,
 ghost use Rattle.team_sets.specs.Names.{has_name};
 ghost use Rattle.team_model.specs.Judging.{order_of};
 ghost use Rattle.replica.specs.Judged.{ancestor_rows, ancestors_among, IsOrdered, or_chosen, or_flags};
-ghost use Rattle.replica.specs.Places.{picked};
+ghost use Rattle.link_graph.specs.Positions.{at_places};
 
 use std::alloc::Global;
 use team_model::Link;
@@ -12,7 +12,7 @@ use tg_text::{Items, LinkName, Memory};
 pub(crate) fn link_at<'a>(links: &'a [Link], places: &[usize], k: usize) -> &'a Link
     requires range { All (λ i. i < length links.now) places.now }
     requires k_in_range { k < length places.now }
-    ensures { slice_get (picked links.now places.now) k ≡ Some result.now }
+    ensures { slice_get (at_places links.now places.now) k ≡ Some result.now }
 {
     &links[places[k]]
 }
@@ -33,7 +33,7 @@ fn named_flags(
 ) -> Result<Vec<bool>, Memory>
     requires range { All (λ i. i < length links.now) places.now }
     requires count_in_range { count ≤ length places.now }
-    ensures { IfOk result (λ flags. flags.items ≡ map (λ y. has_name names.now y.name) (take count (picked links.now places.now))) }
+    ensures { IfOk result (λ flags. flags.items ≡ map (λ y. has_name names.now y.name) (take count (at_places links.now places.now))) }
 {
     let mut flags = Vec::new(alloc);
     for k in 0..count {

@@ -6,14 +6,14 @@ ghost use Rattle.team_model.specs.Judging.{fold_team, lawful, name_of, order_of,
 ghost use Rattle.team_model.specs.ShowText.{count_counting};
 ghost use Rattle.team_model.specs.State.{empty_state};
 ghost use Rattle.replica.specs.Judged.{ancestor_rows, flag_at, IsOrdered};
-ghost use Rattle.replica.specs.Places.{picked};
+ghost use Rattle.link_graph.specs.Positions.{at_places};
 
 use crate::ancestors::{find_ancestors, link_at};
 use crate::reducer::{apply, permits};
-use crate::state::TeamState;
 use acts::Entry;
 use std::alloc::Global;
 use team_model::Link;
+use team_state::TeamState;
 use tg_text::{Items, Memory};
 
 /// The team of a set of links, and how many of them count.
@@ -34,9 +34,9 @@ fn past_state(
     requires range { All (λ i. i < length links.now) places.now }
     requires lawful_in_row { All (λ j. j < length row.now) lawful.now }
     requires row_in_order { length row.now ≤ length places.now }
-    ensures { IfOk result (λ state. state ≡ fold_team team_rules (picked (picked links.now places.now) (filter (flag_at row.now) lawful.now))) }
+    ensures { IfOk result (λ state. state ≡ fold_team team_rules (at_places (at_places links.now places.now) (filter (flag_at row.now) lawful.now))) }
 {
-    let mut state = TeamState::new(alloc);
+    let mut state = TeamState::new(alloc)?;
     for &j in lawful {
         if row[j] {
             apply(alloc, &mut state, &link_at(links, places, j).entry)?;
@@ -57,7 +57,7 @@ fn is_permitted(
     requires range { All (λ i. i < length links.now) places.now }
     requires lawful_in_row { All (λ j. j < length row.now) lawful.now }
     requires row_in_order { length row.now ≤ length places.now }
-    ensures { IfOk result (λ b. b ≡ is_none (refusal (fold_team team_rules (picked (picked links.now places.now) (filter (flag_at row.now) lawful.now))) entry.now)) }
+    ensures { IfOk result (λ b. b ≡ is_none (refusal (fold_team team_rules (at_places (at_places links.now places.now) (filter (flag_at row.now) lawful.now))) entry.now)) }
 {
     let state = past_state(alloc, links, places, lawful, row)?;
     Ok(permits(&state, entry).is_ok())
@@ -74,7 +74,7 @@ fn lawful_places(
     requires rows { rows.now ≡ ancestor_rows links.now [] (order_of links.now) }
     requires size { length rows.now ≡ length places.now }
     ensures range { IfOk result (λ lawful. All (λ j. j < length places.now) lawful.items) }
-    ensures lawful { IfOk result (λ found. picked (order_of links.now) found.items ≡ lawful team_rules links.now) }
+    ensures lawful { IfOk result (λ found. at_places (order_of links.now) found.items ≡ lawful team_rules links.now) }
     ensures few { IfOk result (λ lawful. length lawful.items ≤ length places.now) }
 {
     let mut lawful = Vec::new(alloc);
@@ -97,10 +97,10 @@ fn reduce(
     requires range { All (λ i. i < length links.now) places.now }
     requires lawful_in_order { All (λ j. j < length places.now) lawful.now }
     requires few { length lawful.now < 2 ^ 32 }
-    ensures state { IfOk result (λ it. it.state ≡ fold_team team_rules (picked (picked links.now places.now) lawful.now)) }
-    ensures counting { IfOk result (λ it. it.counting ≡ permitted_from team_rules empty_state (picked (picked links.now places.now) lawful.now)) }
+    ensures state { IfOk result (λ it. it.state ≡ fold_team team_rules (at_places (at_places links.now places.now) lawful.now)) }
+    ensures counting { IfOk result (λ it. it.counting ≡ permitted_from team_rules empty_state (at_places (at_places links.now places.now) lawful.now)) }
 {
-    let mut state = TeamState::new(alloc);
+    let mut state = TeamState::new(alloc)?;
     let mut counting = 0;
     for &k in lawful {
         let refused = apply(alloc, &mut state, &link_at(links, places, k).entry)?;
@@ -116,7 +116,7 @@ fn reduce(
 pub(crate) fn judge(alloc: Global, links: &[Link], places: &[usize]) -> Result<Judged, Memory>
     requires set { IsSet name_of links.now }
     requires range { All (λ i. i < length links.now) places.now }
-    requires order { picked links.now places.now ≡ order_of links.now }
+    requires order { at_places links.now places.now ≡ order_of links.now }
     requires few { length links.now < 2 ^ 32 }
     ensures state { IfOk result (λ it. it.state ≡ team team_rules links.now) }
     ensures counting { IfOk result (λ it. it.counting ≡ count_counting links.now) }

@@ -7,15 +7,14 @@
 
 mod ancestors;
 mod judging;
+mod laws;
 mod looking;
 mod reducer;
 mod replica;
-mod state;
-#[cfg(test)]
-mod tests;
 mod view;
 
+pub use laws::counting_links_are_right;
 pub use link_graph::{Graph, TakeFault, Took};
 pub use replica::Replica;
-pub use state::TeamState;
+pub use team_state::TeamState;
 pub use view::View;

@@ -1,7 +1,7 @@
 ghost use Rattle.std.specs.Prelude.{◌≡◌, ◌<◌, All, length, IfOk};
 ghost use Rattle.team_model.specs.Judging.{order_of};
 ghost use Rattle.replica.specs.Held.{sight_of};
-ghost use Rattle.replica.specs.Places.{picked};
+ghost use Rattle.link_graph.specs.Positions.{at_places};
 
 use crate::judging::{Judged, judge};
 use crate::view::View;
@@ -12,7 +12,7 @@ use tg_text::Memory;
 /// The places of the connected links among the held ones, in the order of the team.
 fn order_places(alloc: Global, graph: &Graph) -> Result<Vec<usize>, Memory>
     ensures range { IfOk result (λ places. All (λ i. i < length graph.now.links) places.items) }
-    ensures order { IfOk result (λ places. picked graph.now.links places.items ≡ order_of graph.now.links) }
+    ensures order { IfOk result (λ places. at_places graph.now.links places.items ≡ order_of graph.now.links) }
 {
     let mut places = Vec::new(alloc);
     for &position in graph.order() {

@@ -1,13 +1,14 @@
 ghost use Rattle.std.specs.Prelude.{◌≡◌, ◌&&◌, IfOk, OnErr, OnOk, if◌then◌else◌, None, Some};
 ghost use Rattle.std.specs.Result.{result_err};
+ghost use Rattle.acts.specs.declared.entry.Act.TheVariants.{Found};
 ghost use Rattle.team_model.specs.ActTable.{after, effect, refusal};
 ghost use Rattle.team_model.specs.State.{is_admin, is_empty_state, lists_device, lists_user};
 
-use crate::state::TeamState;
 use acts::{Act, Entry};
 use std::alloc::Global;
-use team_model::Reason;
-use tg_text::Memory;
+use team_model::{Device, Member, Reason};
+use team_state::TeamState;
+use tg_text::{Items, Memory, RoleName, Title};
 
 /// Why an entry is refused in a state, if it is.
 pub(crate) fn permits(state: &TeamState, entry: &Entry) -> Result<(), Reason>
@@ -36,7 +37,7 @@ fn is_unfounded(state: &TeamState) -> Result<(), Reason>
 fn is_listed(state: &TeamState, entry: &Entry) -> Result<(), Reason>
     ensures { result_err result ≡ (if lists_user state.now entry.now.user && lists_device state.now entry.now.user entry.now.device then None else Some Reason.NotListed) }
 {
-    if state.lists_user(&entry.user) && state.lists_device(&entry.user, &entry.device) {
+    if state.lists_user(&entry.user) && state.lists(&entry.user, &entry.device) {
         Ok(())
     } else {
         Err(Reason::NotListed)
@@ -75,11 +76,38 @@ fn act(alloc: Global, state: &mut TeamState, entry: &Entry) -> Result<(), Memory
     ensures err { OnErr result (state.new ≡ state.old) }
 {
     match &entry.act {
-        Act::Found { seal, title } => state.found(alloc, entry, *seal, *title),
-        Act::Title { title } => {
-            state.set_title(*title);
-            Ok(())
-        }
+        Act::Found { seal, title } => found(alloc, state, entry, *seal, *title),
+        Act::Title { title } => state.put_title(*title),
         _ => Ok(()),
     }
+}
+
+// Founds the team: the author is a member and an admin, with one device. `seal` is the sealing public of that.
+fn found(
+    alloc: Global,
+    state: &mut TeamState,
+    entry: &Entry,
+    seal: [u8; 32],
+    title: Title,
+) -> Result<(), Memory>
+    ensures ok { OnOk result (state.new ≡ effect state.old entry.now (Found seal title)) }
+    ensures err { OnErr result (state.new ≡ state.old) }
+{
+    let mut roles = Items::new(alloc);
+    roles.push(RoleName::admin())?;
+    let mut next = state.copy()?;
+    next.put_title(title)?;
+    next.put_role(RoleName::admin())?;
+    next.put_member(Member {
+        user: entry.user,
+        roles,
+    })?;
+    next.put_device(Device {
+        id: entry.device,
+        seal,
+        user: entry.user,
+        listed: true,
+    })?;
+    *state = next;
+    Ok(())
 }

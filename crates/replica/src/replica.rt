@@ -1,11 +1,10 @@
-ghost use Rattle.std.specs.Prelude.{◌≡◌, ◌<◌, [], ◌↔◌, ℕ, List, length, IsTrue, IfOk, OnOk, OnErr, Ok, Err};
-ghost use Rattle.link_text.specs.Faults.{IsBadText};
-ghost use Rattle.link_graph.specs.Faults.{IsExact};
+ghost use Rattle.std.specs.Prelude.{◌≡◌, ◌<◌, [], ◌↔◌, length, IsTrue, IfOk, OnOk, OnErr};
 ghost use Rattle.link_graph.specs.Held.{arrived_of};
-ghost use Rattle.link_graph.specs.Taking.{Clashes, HasText, IsFull, IsOfOther, IsTaken, IsUnverified};
+ghost use Rattle.link_graph.specs.Taking.{Answers};
 ghost use Rattle.link_graph.specs.Webs.{without_last};
 ghost use Rattle.replica.specs.Held.{sight_of};
 
+use crate::laws::counting_links_are_right;
 use crate::looking::look;
 use crate::view::View;
 use link_graph::{Graph, TakeFault, Took};
@@ -69,6 +68,8 @@ impl Replica {
     pub fn with_graph(alloc: Global, graph: Graph) -> Result<Replica, Memory>
         ensures { IfOk result (λ it. it ≡ graph) }
     {
+        // A law: it does nothing at run time.
+        counting_links_are_right();
         let view = look(alloc, &graph)?;
         Ok(Replica { graph, view })
     }
@@ -102,15 +103,7 @@ impl Replica {
         bytes: &[u8],
         steps: &mut Steps<L>,
     ) -> Result<Took, TakeFault>
-        ensures taken { IfOk result (λ took. IsTaken self.old self.new bytes.now took) }
-        ensures again { HasText self.old.links bytes.now → result ≡ Ok Took.Again }
-        ensures fault { OnErr result (self.new ≡ self.old) }
-        ensures too_long { (result ≡ Err TakeFault.TooLong) ↔ (1048576 < length bytes.now) }
-        ensures bad_text { IsExact TakeFault.BadText (IsBadText bytes.now) result }
-        ensures other_team { IsExact TakeFault.OtherTeam (IsOfOther self.old.team bytes.now) result }
-        ensures bad_signature { IsExact TakeFault.BadSignature (IsUnverified self.old.team bytes.now) result }
-        ensures name_clash { (n : List ℕ) → IsExact (TakeFault.NameClash n) (Clashes self.old bytes.now n) result }
-        ensures full { (held size : ℕ) → IsExact (TakeFault.Full held size) (IsFull self.old bytes.now held size) result }
+        ensures { Answers self.old self.new bytes.now result }
     {
         let before = self.graph.connected();
         match self.graph.take(bytes) {

@@ -1,4 +1,4 @@
-use crate::state::TeamState;
+use team_state::TeamState;
 
 /// What is shown of the held links. Links that wait for a parent have no effect on the team.
 #[derive(Debug, Drop)]

@@ -1,7 +1,7 @@
 use Rattle.std.proofs.Common.{◌≡◌, map, take}
 use Rattle.team_sets.specs.Names.{has_name}
-use Rattle.replica.specs.Places.{picked}
+use Rattle.link_graph.specs.Positions.{at_places}
 use Rattle.replica.proofs.ancestors.named_flags.Given as goal
 
 abbrev pub invariant-loop-k : goal.invariant-loop-k
-invariant-loop-k l = l.flags.items ≡ map (λ y. has_name l.names y.name) (take l.k (picked l.links l.places))
+invariant-loop-k l = l.flags.items ≡ map (λ y. has_name l.names y.name) (take l.k (at_places l.links l.places))
