@@ -2,7 +2,7 @@
 use Rattle.std.proofs.Common.{◌≡◌, ℕ, ◌+◌, ◌<◌, List, [], ◌∷◌, ◌++◌, flat_map, length, take, get_or, codes, sym, ◌∙◌, ap, append-nil, append_assoc}
 use Rattle.std.proofs.lemmas.List.{flat_map_more, take_more}
 use Rattle.team_sets.specs.Names.{Name}
-use Rattle.tg_text.specs.Spelling.{spaced}
+use Rattle.tg_text.specs.Spelling.{line_of, spaced}
 use Rattle.team_model.specs.declared.terms.Member.{Member}
 use Rattle.team_report.specs.Lines.{member_line, spaced_role}
 
@@ -21,3 +21,8 @@ pub member_written : (m : Member) (start a b c end user : List ℕ) (roles : Lis
     → c ≡ b ++ flat_map spaced_role roles → roles ≡ m.roles → end ≡ c ++ 10 ∷ [] → end ≡ start ++ member_line m
 member_written m start a b c end user roles e f same g alike h =
     h ∙ rw (g, f, e, same, alike, spaced-roles m.user m.roles) (simp append_assoc)
+
+-- the line of a key that a device doesn't reach
+pub unreached_written : (start a b c d e end key hex : List ℕ) → a ≡ start ++ codes "debt " → b ≡ a ++ codes "unreached " → c ≡ b ++ key → d ≡ c ++ codes " " → e ≡ d ++ hex
+    → end ≡ e ++ 10 ∷ [] → end ≡ start ++ line_of (codes "debt" ∷ codes "unreached" ∷ key ∷ hex ∷ [])
+unreached_written start a b c d e end key hex p q r s t h = h ∙ rw (t, s, r, q, p) (simp append_assoc)

@@ -32,20 +32,6 @@ device_line d = line_of (codes "device" ∷ d.user ∷ spell_hex d.id ∷ [])
 abbrev pub role_line : Name → List ℕ
 role_line r = line_of (codes "role" ∷ r ∷ [])
 
--- a scope, as it is spelled, that has no key
-abbrev pub debt_line : List ℕ → List ℕ
-debt_line scope = line_of (codes "debt" ∷ codes "none" ∷ scope ∷ [])
-
-abbrev pub role_debt_line : Name → List ℕ
-role_debt_line r = debt_line (codes "role:" ++ r)
-
-abbrev pub member_debt_line : Member → List ℕ
-member_debt_line m = debt_line (codes "user:" ++ m.user)
-
--- of the team, then of its roles and of its members
-abbrev pub owed_lines : List Name → List Member → List ℕ
-owed_lines roles members = debt_line (codes "team") ++ flat_map role_debt_line roles ++ flat_map member_debt_line members
-
 -- the listed devices, by user and then by id
 abbrev pub listed_by_user : List Device → List Device
 listed_by_user devices = ascending device_lt (filter (λ d. d.listed) devices)

@@ -1,65 +1,62 @@
 ghost use Rattle.std.specs.Prelude.{◌≡◌, ◌++◌, OnOk, flat_map};
-ghost use Rattle.team_report.specs.Lines.{debt_line, member_debt_line, owed_lines, role_debt_line};
-ghost use Rattle.team_model.specs.ShowText.{debt_lines};
+ghost use Rattle.key_reach.specs.declared.debt.Debt.TheVariants.{NoKey, Tainted, Unreached};
+ghost use Rattle.team_model.specs.ShowText.{debt_line, debt_lines};
 
+use key_reach::{Debt, debts};
 use replica::TeamState;
-use team_model::Member;
-use tg_text::{Bytes, Memory, RoleName};
+use std::alloc::Global;
+use tg_text::{Bytes, DeviceId, KeyId, Memory, Scope, write_hex, write_key_id, write_scope};
 
-/// A line for each key that the team owes: of the team, of its roles and of its members.
-pub(crate) fn write_debts(out: &mut Bytes, state: &TeamState) -> Result<(), Memory>
+/// A line for each debt of the team, in their order.
+pub(crate) fn write_debts(alloc: Global, out: &mut Bytes, state: &TeamState) -> Result<(), Memory>
     ensures { OnOk result (out.new ≡ out.old ++ debt_lines state.now) }
 {
-    if state.is_empty() {
-        return Ok(());
-    }
-    write_owed(out, state.roles(), state.members())
+    let debts = debts(alloc, state)?;
+    write_all(out, debts.as_slice())
 }
 
-fn write_owed(out: &mut Bytes, roles: &[RoleName], members: &[Member]) -> Result<(), Memory>
-    ensures { OnOk result (out.new ≡ out.old ++ owed_lines roles.now members.now) }
+fn write_all(out: &mut Bytes, debts: &[Debt]) -> Result<(), Memory>
+    ensures { OnOk result (out.new ≡ out.old ++ flat_map debt_line debts.now) }
 {
-    write_debt(out, b"team", b"")?;
-    write_role_debts(out, roles)?;
-    write_member_debts(out, members)
-}
-
-fn write_role_debts(out: &mut Bytes, roles: &[RoleName]) -> Result<(), Memory>
-    ensures { OnOk result (out.new ≡ out.old ++ flat_map role_debt_line roles.now) }
-{
-    for role in roles {
-        write_role_debt(out, role)?;
+    for debt in debts {
+        write_debt(out, debt)?;
     }
     Ok(())
 }
 
-fn write_role_debt(out: &mut Bytes, role: &RoleName) -> Result<(), Memory>
-    ensures { OnOk result (out.new ≡ out.old ++ role_debt_line role.now) }
+fn write_debt(out: &mut Bytes, debt: &Debt) -> Result<(), Memory>
+    ensures { OnOk result (out.new ≡ out.old ++ debt_line debt.now) }
 {
-    write_debt(out, b"role:", role.as_slice())
-}
-
-fn write_member_debts(out: &mut Bytes, members: &[Member]) -> Result<(), Memory>
-    ensures { OnOk result (out.new ≡ out.old ++ flat_map member_debt_line members.now) }
-{
-    for member in members {
-        write_member_debt(out, member)?;
+    match debt {
+        Debt::NoKey(scope) => write_no_key(out, scope),
+        Debt::Tainted(key) => write_tainted(out, key),
+        Debt::Unreached(key, device) => write_unreached(out, key, device),
     }
-    Ok(())
 }
 
-fn write_member_debt(out: &mut Bytes, member: &Member) -> Result<(), Memory>
-    ensures { OnOk result (out.new ≡ out.old ++ member_debt_line member.now) }
-{
-    write_debt(out, b"user:", member.user.as_slice())
-}
-
-// The line of a scope without a key, which is spelled by its kind and its name.
-fn write_debt(out: &mut Bytes, kind: &[u8], name: &[u8]) -> Result<(), Memory>
-    ensures { OnOk result (out.new ≡ out.old ++ debt_line (kind.now ++ name.now)) }
+fn write_no_key(out: &mut Bytes, scope: &Scope) -> Result<(), Memory>
+    ensures { OnOk result (out.new ≡ out.old ++ debt_line (NoKey scope.now)) }
 {
     out.append(b"debt none ")?;
-    out.append(kind)?;
-    out.append(name)?;
+    write_scope(out, scope)?;
+    out.append(b"\n")
+}
+
+fn write_tainted(out: &mut Bytes, key: &KeyId) -> Result<(), Memory>
+    ensures { OnOk result (out.new ≡ out.old ++ debt_line (Tainted key.now)) }
+{
+    out.append(b"debt tainted ")?;
+    write_key_id(out, key)?;
+    out.append(b"\n")
+}
+
+fn write_unreached(out: &mut Bytes, key: &KeyId, device: &DeviceId) -> Result<(), Memory>
+    ensures { OnOk result (out.new ≡ out.old ++ debt_line (Unreached key.now device.now)) }
+{
+    out.append(b"debt ")?;
+    out.append(b"unreached ")?;
+    write_key_id(out, key)?;
+    out.append(b" ")?;
+    write_hex(out, device.as_slice())?;
     out.append(b"\n")
 }

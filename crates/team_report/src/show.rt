@@ -1,17 +1,23 @@
 ghost use Rattle.std.specs.Prelude.{◌≡◌, ◌++◌, OnOk, IfOk, option_copied};
+ghost use Rattle.team_model.specs.ShowText.{show_text, state_lines};
 ghost use Rattle.team_report.specs.Lines.{links_line, team_line, title_line};
 ghost use Rattle.team_report.specs.Shown.{shown};
-ghost use Rattle.team_model.specs.ShowText.{state_lines};
 
 use crate::by_user::write_devices;
 use crate::debts::write_debts;
 use crate::tables::{write_members, write_roles};
-use replica::{TeamState, View};
+use replica::{Replica, TeamState, View};
 use std::alloc::Global;
 use tg_text::{Bytes, LinkName, Memory, Title, write_decimal, write_hex};
 
-/// The text of show: the team of a view with its tables, and its counts.
-pub fn show_text(alloc: Global, team: &LinkName, view: &View) -> Result<Bytes, Memory>
+/// The text of show: the team of a replica's links with its tables, and how many are held, wait and count.
+pub fn show_text(alloc: Global, replica: &Replica) -> Result<Bytes, Memory>
+    ensures { IfOk result (λ out. out ≡ show_text replica.now.team replica.now.links) }
+{
+    write_view(alloc, &replica.team(), replica.view())
+}
+
+fn write_view(alloc: Global, team: &LinkName, view: &View) -> Result<Bytes, Memory>
     ensures { IfOk result (λ out. out ≡ shown team.now view.now) }
 {
     let mut out = Bytes::new(alloc);
@@ -60,5 +66,5 @@ fn write_state(alloc: Global, out: &mut Bytes, state: &TeamState) -> Result<(), 
     write_members(out, state.members())?;
     write_devices(alloc, out, state.devices())?;
     write_roles(out, state.roles())?;
-    write_debts(out, state)
+    write_debts(alloc, out, state)
 }
