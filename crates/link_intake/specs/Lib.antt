@@ -1,0 +1,4 @@
+pub mod Giving
+pub mod Merged
+pub mod ResultsText
+pub mod UnionLaws
