@@ -1,0 +1,13 @@
+ghost use Rattle.std.specs.Prelude.{◌≡◌, List, ℕ, Option};
+ghost use Rattle.link_graph.specs.Held.{Held};
+ghost use Rattle.outcomes.specs.Refusing.{Found};
+ghost use Rattle.openers.specs.Team.{FindsTeam};
+
+use team_files::file_is_read_once;
+
+/// One thing is found of a file that is to be a team's.
+pub fn team_is_found_once()
+    ensures { (file : Option (List ℕ)) (x y : Found Held) → FindsTeam file x → FindsTeam file y → x ≡ y }
+{
+    file_is_read_once();
+}
