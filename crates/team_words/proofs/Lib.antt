@@ -1,0 +1,2 @@
+mod Titles
+mod WordCounts
