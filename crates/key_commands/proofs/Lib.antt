@@ -1,0 +1,5 @@
+mod Foundings
+mod KnownKeys
+mod MadeBytes
+mod MadeTeams
+mod MadeTexts

@@ -1,0 +1,4 @@
+pub mod KnownKeys
+pub mod Make
+pub mod MakeLaws
+pub mod Newkey
