@@ -1,0 +1,36 @@
+use Rattle.std.proofs.Common.{◌≡◌, ◌≢◌, ℕ, arith, codes, refl}
+use Rattle.std.proofs.lemmas.List.Elements.{All-contains}
+use Rattle.std.proofs.lemmas.Option.{IfSome_then}
+use Rattle.outcomes.specs.Ending.{answer_of}
+use Rattle.outcomes.specs.Seeing.{contents_of, counts_of}
+use Rattle.outcomes.specs.Steps.{World, Outcome, saying}
+use Rattle.outcomes.proofs.Printing.{body_says, faulted_none, runs_concluded}
+use Rattle.team_run.specs.Running.{statuses_of}
+use Rattle.team_run.proofs.Statuses.{ends_with_two, never_two}
+use Rattle.team_run.proofs.running.run.Goals as goal
+
+pub returns-in-Ok-Some-clause-only_usage : goal.returns-in-Ok-Some-clause-only_usage
+returns-in-Ok-Some-clause-only_usage g c = λ two.
+    absurd (All-contains (λ (n : ℕ). n ≢ 2) (statuses_of c.in-Ok-Some.command) c.run_command.result (never_two c.in-Ok-Some.command) (c.run_command.ensures.status (omega (arith, two))) two)
+
+pub returns-in-Ok-Some-clause-runs : goal.returns-in-Ok-Some-clause-runs
+returns-in-Ok-Some-clause-runs g c =
+    let some = rw c.in-Ok-Some.field-0-is at c.in-Ok-Some.ensures in
+    rw (← some) c.run_command.ensures.runs
+
+pub returns-in-Ok-None-clause-runs : goal.returns-in-Ok-None-clause-runs
+returns-in-Ok-None-clause-runs g c =
+    let none = rw c.in-Ok-None.field-0-is at c.in-Ok-None.ensures in
+    let does = λ (w : World) (o : Outcome). o ≡ saying 2 (codes "usage\n") in
+    let old = contents_of g.F.Files.files g.E.Entropy.left g.C.Clock.moment g.I.Source.left g.O.Sink.taken c.args.files.now c.args.entropy.now c.args.clock.now c.args.input.now c.args.out.now in
+    rw (← none)
+    (runs_concluded does old old _ _ c.usage.result c.conclude.result c.conclude.ensures.concluded
+    (body_says does old old c.usage.result (λ w is. is) (λ w is. IfSome_then (answer_of c.usage.result) c.usage.ensures.said (λ a h. rw (h.0, h.1) refl))))
+
+pub returns-in-Ok-None-clause-cause : goal.returns-in-Ok-None-clause-cause
+returns-in-Ok-None-clause-cause g c =
+    let before = counts_of g.F.Files.faults g.E.Entropy.faults g.I.Source.faults g.O.Sink.faults c.args.files.now c.args.entropy.now c.args.input.now c.args.out.now in
+    c.conclude.ensures.cause before before (faulted_none before _ c.usage.ensures.never)
+
+pub returns-in-Ok-None-clause-usage : goal.returns-in-Ok-None-clause-usage
+returns-in-Ok-None-clause-usage g c = λ none lt. ends_with_two _ _ (answer_of c.usage.result) c.conclude.result c.conclude.ensures.concluded c.usage.ensures.said lt

@@ -1,0 +1,102 @@
+ghost use Rattle.std.specs.Prelude.{◌≡◌, ◌≢◌, ◌<◌, map, None, Contains, Err, IfSome, string_bytes, codes};
+ghost use Rattle.outcomes.specs.Seeing.{contents_of, counts_of};
+ghost use Rattle.outcomes.specs.Ending.{IsCaused, Runs, answer_of};
+ghost use Rattle.team_words.specs.Words.{command_of};
+ghost use Rattle.team_run.specs.Running.{does, does_words, statuses_of};
+
+use exchange_commands::run_merge;
+use key_commands::{run_make, run_newkey};
+use lockboxes::Sealer;
+use outcomes::{Answer, NO_MEMORY, Stop, USAGE, conclude};
+use report_commands::run_show;
+use std::alloc::Global;
+use team_words::{Command, command_of};
+use tg_outside::{Clock, Entropy, Files, Sink, Source, StepLedger, Steps};
+use tg_text::Memory;
+
+/// All that the program does. The words are those after its name, and the result is its status: 0 to 4 by the words and
+/// what is outside, 5 where a call of the outside failed, 6 for want of memory.
+pub fn run<F: Files, E: Entropy, C: Clock, I: Source, O: Sink, K: Sealer, L: StepLedger>(
+    alloc: Global,
+    words: &[String],
+    files: &mut F,
+    entropy: &mut E,
+    clock: &mut C,
+    input: &mut I,
+    out: &mut O,
+    sealer: &K,
+    steps: &mut Steps<L>,
+) -> u8
+    ensures runs { Runs (does_words K.public (command_of (map string_bytes words.now)))
+        (contents_of F.files E.left C.moment I.left O.taken files.old entropy.old clock.old input.old out.old)
+        (contents_of F.files E.left C.moment I.left O.taken files.new entropy.new clock.new input.new out.new) result }
+    ensures cause { IsCaused (counts_of F.faults E.faults I.faults O.faults files.old entropy.old input.old out.old)
+        (counts_of F.faults E.faults I.faults O.faults files.new entropy.new input.new out.new) result }
+
+    // Whether or not contents are known, 2 comes exactly where the words are no command.
+    ensures usage { command_of (map string_bytes words.now) ≡ None → result < 5 → result ≡ 2 }
+    ensures only_usage { result ≡ 2 → command_of (map string_bytes words.now) ≡ None }
+
+    // A command that gives items ends with 0, 1 or 3, every other one with 0 or 3.
+    ensures statuses { IfSome (command_of (map string_bytes words.now)) (λ command. result < 5 → Contains (statuses_of command) result) }
+{
+    match command_of(alloc, words) {
+        Ok(Some(command)) => {
+            run_command(
+                alloc, &command, files, entropy, clock, input, out, sealer, steps,
+            )
+        }
+        Ok(None) => conclude(out, usage(alloc)),
+        Err(Memory) => NO_MEMORY,
+    }
+}
+
+/// Does a command.
+pub fn run_command<F: Files, E: Entropy, C: Clock, I: Source, O: Sink, K: Sealer, L: StepLedger>(
+    alloc: Global,
+    command: &Command,
+    files: &mut F,
+    entropy: &mut E,
+    clock: &mut C,
+    input: &mut I,
+    out: &mut O,
+    sealer: &K,
+    steps: &mut Steps<L>,
+) -> u8
+    ensures runs { Runs (does K.public command.now)
+        (contents_of F.files E.left C.moment I.left O.taken files.old entropy.old clock.old input.old out.old)
+        (contents_of F.files E.left C.moment I.left O.taken files.new entropy.new clock.new input.new out.new) result }
+    ensures cause { IsCaused (counts_of F.faults E.faults I.faults O.faults files.old entropy.old input.old out.old)
+        (counts_of F.faults E.faults I.faults O.faults files.new entropy.new input.new out.new) result }
+    ensures status { result < 5 → Contains (statuses_of command.now) result }
+{
+    match command {
+        Command::Make { .. } => {
+            run_make(
+                alloc, command, files, entropy, clock, input, out, sealer, steps,
+            )
+        }
+        Command::Newkey { .. } => {
+            run_newkey(
+                alloc, command, files, entropy, clock, input, out, sealer, steps,
+            )
+        }
+        Command::Merge { .. } => {
+            run_merge(
+                alloc, command, files, entropy, clock, input, out, sealer, steps,
+            )
+        }
+        Command::Show { .. } => {
+            run_show(
+                alloc, command, files, entropy, clock, input, out, sealer, steps,
+            )
+        }
+    }
+}
+
+fn usage(alloc: Global) -> Result<Answer, Stop>
+    ensures said { IfSome (answer_of result) (λ answer. (answer.status ≡ 2) × (answer.text ≡ codes "usage\n")) }
+    ensures never { result ≢ Err Stop.Failed }
+{
+    Ok(Answer::say(alloc, USAGE, b"usage\n")?)
+}
