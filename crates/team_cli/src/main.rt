@@ -1,39 +1,11 @@
-//! The program: it reads the words of the command line, and does the command that they are.
-//!
-//! `run` is the top call, over any files, entropy, clock, source, sink and sealer. `specs/Words.antt` says what words mean,
-//! `specs/Make.antt`, `specs/Newkey.antt`, `specs/Merge.antt` and `specs/Show.antt` what each command does, and
-//! `specs/Running.antt` what `run` promises, `specs/MergeLaws.antt` what merges come to together, and `specs/MakeLaws.antt` what the
-//! file of a new team is. `main` hands in the words and the real objects, and ends with the status.
+//! The program: `main` hands the words of the command line and the real objects to `run` of `team_run`, and ends with the status.
 #![tactic(auto)]
 
-mod command;
-mod fate;
-mod fate_text;
-mod faults;
-mod giving;
-#[cfg(test)]
-mod histories;
-mod make;
-mod make_laws;
-#[cfg(test)]
-mod make_tests;
-mod merge;
-mod merge_laws;
-#[cfg(test)]
-mod merge_tests;
-mod newkey;
-#[cfg(test)]
-mod reef;
-mod run;
-mod show;
-#[cfg(test)]
-mod tests;
-
 use lockboxes::SymbolicKeeper;
-use run::run;
 use std::io::ErrorKind;
 use std::process::ExitCode;
 use std::{env, io};
+use team_run::run;
 use tg_outside::{Input, Output, RealClock, RealEntropy, RealFiles, Silent, Steps};
 
 // The words after the program's name. Where one isn't UTF-8 there are none, which is no command.

@@ -1,5 +1,0 @@
-use Rattle.team_cli.proofs.Unions.{items_union}
-use Rattle.team_cli.proofs.merge_laws.merge_is_union.Goals as goal
-
-pub returns : goal.returns
-returns c = items_union c.link_is_spelled_once.ensures
