@@ -1,0 +1,113 @@
+//! Graphs and replicas of the same links in any order.
+use link_graph::{Graph, TakeFault, Took};
+use link_text::{finish, name_of};
+use replica::Replica;
+use std::alloc::Global;
+use std::test::Fail;
+use team_files::{file_text, read_graph};
+use team_samples::{Draws, History, all_but, make_history, shuffled};
+use tg_outside::{Silent, Steps};
+use tg_text::{Bytes, LinkName, Memory};
+
+// How many links the history has.
+const LINKS: usize = 14;
+
+// Whether a text that isn't held is taken, and held from then on.
+fn is_taken(graph: &mut Graph, text: &[u8]) -> bool {
+    let (before, name) = (graph.connected(), name_of(text));
+    if graph.holds(&name) {
+        return false;
+    }
+    let is_placed = match graph.take(text) {
+        Ok(Took::New { .. }) => graph.position(&name) == Some(before),
+        Ok(Took::Waiting) => graph.position(&name).is_none() && graph.connected() == before,
+        _ => false,
+    };
+    is_placed && graph.text_of(&name) == Some(text) && graph.take(text) == Ok(Took::Again)
+}
+
+// The links of a history, taken in the order of these places; `None` where one isn't taken.
+fn graph_of(alloc: Global, history: &History, order: &[usize]) -> Option<Graph> {
+    let mut graph = Graph::new(alloc, history.team);
+    for place in order {
+        let text = history.texts.get(*place)?;
+        if !is_taken(&mut graph, text.as_slice()) {
+            return None;
+        }
+    }
+    Some(graph)
+}
+
+// The names of the connected links in their order.
+fn ordered(alloc: Global, graph: &Graph) -> Result<Vec<LinkName>, Memory> {
+    let mut names = Vec::new(alloc);
+    for position in graph.order() {
+        if *position < graph.connected() {
+            names.push(graph.link_at(*position).name)?;
+        }
+    }
+    Ok(names)
+}
+
+// Whether two graphs with as many links show the same.
+fn are_same(alloc: Global, graph: &Graph, other: &Graph) -> Result<bool, Memory> {
+    let counts = graph.held() == other.held() && graph.connected() == other.connected();
+    let files = file_text(alloc, graph)?.as_slice() == file_text(alloc, other)?.as_slice();
+    let names = ordered(alloc, graph)?.as_slice() == ordered(alloc, other)?.as_slice();
+    Ok(counts && files && names && graph.heads() == other.heads())
+}
+
+// Forwards and in five other orders; and a graph that is read from the file, in the order of names.
+#[test]
+fn links_in_any_order_are_one_graph(rt: HostRuntime) -> Result<(), Fail> {
+    let alloc = rt.alloc();
+    let history = make_history(alloc, 3, LINKS as u64)?;
+    let forwards = all_but(alloc, LINKS, LINKS)?;
+    let graph = graph_of(alloc, &history, forwards.as_slice()).ok_or("not taken")?;
+    assert_eq!(rt; graph.connected(), LINKS as u32);
+    for state in 0..5 {
+        let order = shuffled(alloc, &mut Draws { state }, forwards.as_slice())?;
+        let other = graph_of(alloc, &history, order.as_slice()).ok_or("not taken")?;
+        assert!(rt; are_same(alloc, &graph, &other)?, "order {state}");
+    }
+    let file = file_text(alloc, &graph)?;
+    assert_eq!(rt; file.len() as u64, graph.file_bytes());
+    let read = read_graph(alloc, file.as_slice()).ok().ok_or("no file")?;
+    assert!(rt; are_same(alloc, &graph, &read)?);
+    Ok(())
+}
+
+// A link of the history, with a signature of three bytes.
+fn unsigned(alloc: Global, text: &Bytes) -> Result<Bytes, Memory> {
+    // the line of a signature of 2,348 bytes
+    let body = text.as_slice().split_at(text.len().saturating_sub(3138)).0;
+    finish(alloc, body, &[0, 1, 2])
+}
+
+// What is refused leaves a graph and a replica as they were.
+#[test]
+fn texts_are_refused(rt: HostRuntime) -> Result<(), Fail> {
+    let alloc = rt.alloc();
+    let (history, far) = (make_history(alloc, 1, 2)?, make_history(alloc, 2, 1)?);
+    let far_root = far.texts.first().ok_or("no root")?;
+    let child = unsigned(alloc, history.texts.get(1).ok_or("no link")?)?;
+    let long = vec![in alloc; b'a'; 1_048_577]?;
+    let rows = [
+        (far_root.as_slice(), TakeFault::OtherTeam),
+        (child.as_slice(), TakeFault::BadSignature),
+        (b"team-link 2\n".as_slice(), TakeFault::BadText),
+        (long.as_slice(), TakeFault::TooLong),
+    ];
+    let mut graph = Graph::new(alloc, history.team);
+    let mut replica = Replica::new(alloc, history.team)?;
+    for (text, fault) in rows {
+        assert_eq!(rt; graph.take(text), Err(fault));
+        let took = replica.insert(alloc, text, &mut Steps::new(Silent));
+        assert_eq!(rt; took, Err(fault));
+    }
+    assert_eq!(rt; graph.held(), 0);
+    assert_eq!(rt; graph.file_bytes(), 77);
+    assert_eq!(rt; replica.view().held, 0);
+    assert!(rt; replica.view().state.is_empty());
+    Ok(())
+}
