@@ -1,6 +1,7 @@
-ghost use Rattle.std.specs.Prelude.{◌≡◌, [], false, IfOk, option_copied, OnErr, OnOk};
-ghost use Rattle.key_reach.specs.Keys.{is_device};
-ghost use Rattle.team_model.specs.KeyTables.{key_table};
+ghost use Rattle.std.specs.Prelude.{◌≡◌, [], false, true, IfOk, Some, option_copied, OnErr, OnOk};
+ghost use Rattle.key_reach.specs.Keys.{is_device, same_scope};
+ghost use Rattle.team_model.specs.KeyTables.{all_keys, key_table};
+ghost use Rattle.team_sets.specs.Members.{IsIn};
 ghost use Rattle.team_sets.specs.Names.{has_name};
 ghost use Rattle.team_model.specs.State.{devices_ever, empty_state, has_role, is_admin, is_empty_state, is_listed, is_only_admin, lists_device, lists_user, was_listed};
 ghost use Rattle.team_model.specs.Writes as after;
@@ -187,9 +188,10 @@ impl TeamState {
         row_of(self.invitations.rows.as_slice(), id)
     }
 
-    /// The current key of a scope that ever had one, or of a device that was ever listed.
+    /// The current key of a scope that ever had one, or of a device that was ever listed. A scope has no other.
     pub fn current_key(&self, scope: &Scope) -> Option<&KeyId>
-        ensures { option_copied result ≡ current_key self.now scope.now }
+        ensures key { option_copied result ≡ current_key self.now scope.now }
+        ensures only { (k : KeyId) → IsIn k (all_keys self.now) → same_scope k.scope scope.now ≡ true → option_copied result ≡ Some k }
     {
         row_of(self.keys.rows.as_slice(), scope)
     }
