@@ -24,7 +24,7 @@ use Rattle.key_commands.specs.Make.{file_of_one, founding, making_team, root_put
 use Rattle.key_commands.proofs.KnownKeys.{signed_known, signed_known-cut}
 
 -- a file has the bytes that it was given
-given : (m : FileMap) (name bytes : List ℕ) → fin.get (fin.insert m name bytes) name ≡ Some bytes
+pub given : (m : FileMap) (name bytes : List ℕ) → fin.get (fin.insert m name bytes) name ≡ Some bytes
 given m name bytes = rw (fin.get-insert nat_list_cmp_total m name bytes name, tied_itself nat_list_cmp_total name) refl
 
 -- a key file that was written is known, and has a leaf left

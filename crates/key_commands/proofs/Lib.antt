@@ -1,5 +1,6 @@
 mod Foundings
 mod KnownKeys
+mod Left
 mod MadeBytes
 mod MadeTeams
 mod MadeTexts

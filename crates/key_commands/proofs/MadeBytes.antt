@@ -1,11 +1,9 @@
 -- What a tree signs, and its public key, are bytes.
-use Rattle.std.proofs.Common.{◌≡◌, ◌<◌, ◌≤◌, ◌+◌, ◌/◌, ◌%◌, ◌^◌, ◌==◌, ◌&&◌, nat_le, true, IsTrue, ℕ, zero, suc, List, [], ◌∷◌, ◌++◌, length, slice_index, arith}
+use Rattle.std.proofs.Common.{◌≡◌, ◌≤◌, ◌+◌, ◌/◌, ◌==◌, ◌&&◌, nat_le, true, IsTrue, ℕ, zero, suc, List, [], ◌∷◌, ◌++◌, length, arith}
 use Rattle.std.specs.List.{AllByRecursion, concat}
-use Rattle.std.specs.Int.{byte_at, bytes_high_first, to_be_bytes, w32}
 use Rattle.std.proofs.lemmas.Bool.{and_from, eq-eqb, le-leb}
-use Rattle.sha2.specs.Sha256.{digest_bytes, final_hash, initial_hash_256, sha256}
-use Rattle.sha2.proofs.Facts256.{length-sha256}
-use Rattle.tg_text.specs.Spelling.{AreBytes, IsHash, IsPublicKey, is_public_key}
+use Rattle.sha2.specs.Sha256.{sha256}
+use Rattle.tg_text.specs.Spelling.{AreBytes, IsPublicKey, is_public_key}
 use Rattle.lms_ots.specs.declared.kind.OtsKind.{OtsKind}
 use Rattle.lms_ots.specs.declared.kind.OtsKind.TheVariants.{W1, W2, W4, W8}
 use Rattle.lms_ots.specs.Kinds.{ots_row}
@@ -20,50 +18,14 @@ use Rattle.lms_tree.specs.Nodes.{node, path_from, path_of, root, sibling}
 use Rattle.lms_tree.specs.Signatures.{leaf_signature, public_key, signature_of}
 use Rattle.lms_tree.proofs.Verified.{key_parts}
 use Rattle.lms_keep.specs.KeyText.{IsId}
-
-bytes_none : AreBytes []
-bytes_none = λ i. omega arith
-
-bytes_cons : (b : ℕ) (x : List ℕ) → b < 256 → AreBytes x → AreBytes (b ∷ x)
-bytes_cons b x small are zero = small
-bytes_cons b x small are (suc i) = are i
-
-bytes_append : (x y : List ℕ) → AreBytes x → AreBytes y → AreBytes (x ++ y)
-bytes_append [] y are others = others
-bytes_append (b ∷ x) y are others = bytes_cons b (x ++ y) (are 0) (bytes_append x y (λ i. are (suc i)) others)
+use Rattle.lockboxes.specs.Digests.{bytes_append, bytes_high, bytes_none, bytes_sha256}
 
 bytes_four : (w x y z : List ℕ) → AreBytes w → AreBytes x → AreBytes y → AreBytes z → AreBytes (w ++ x ++ y ++ z)
 bytes_four w x y z a b c d = bytes_append (w ++ x ++ y) z (bytes_append (w ++ x) y (bytes_append w x a b) c) d
 
--- the bytes of a number
-low_byte : (n : ℕ) → n % 256 < 256
-low_byte n = omega arith
-
-byte_small : (i n : ℕ) → byte_at i n < 256
-byte_small zero n = low_byte n
-byte_small (suc i) n = low_byte (n / 256 ^ suc i)
-
-bytes_high : (k n : ℕ) → AreBytes (bytes_high_first k n)
-bytes_high zero n = bytes_none
-bytes_high (suc k) n = bytes_cons (byte_at k n) (bytes_high_first k n) (byte_small k n) (bytes_high k n)
-
 bytes_u32str : (n : ℕ) → AreBytes (u32str n)
 unfolding u32str
 bytes_u32str n = bytes_high 4 n
-
--- a digest
-bytes_digest : (h : List ℕ) (n : ℕ) → AreBytes (digest_bytes h n)
-unfolding digest_bytes
-bytes_digest h zero = bytes_none
-bytes_digest h (suc n) =
-    bytes_append (digest_bytes h n) (to_be_bytes w32 (slice_index h n)) (bytes_digest h n) (bytes_high 4 (slice_index h n))
-
-bytes_sha256 : (m : List ℕ) → AreBytes (sha256 m)
-unfolding sha256
-bytes_sha256 m = bytes_digest (final_hash initial_hash_256 m) 8
-
-pub hash_of : (m : List ℕ) → IsHash (sha256 m)
-hash_of m = record { size = length-sha256 m; bytes = bytes_sha256 m }
 
 -- a one-time signature
 bytes_chain : (id : List ℕ) (q i j n : ℕ) (x : List ℕ) → AreBytes x → AreBytes (chain id q i j n x)

@@ -26,7 +26,8 @@ use Rattle.link_text.specs.TeamFile.{IsHeld}
 use Rattle.link_text.specs.declared.draft.Draft.{Draft}
 use Rattle.key_commands.specs.Make.{founding, signature_by, signed_link, signed_text}
 use Rattle.key_commands.specs.MakeLaws.{IsTeamOfRoot}
-use Rattle.key_commands.proofs.MadeBytes.{bytes_signature, hash_of, public_is}
+use Rattle.lockboxes.specs.Digests.{hash_of}
+use Rattle.key_commands.proofs.MadeBytes.{bytes_signature, public_is}
 use Rattle.key_commands.proofs.MadeTexts.{act_short, key_short, one_short, sign_short, ten_parts, time_short, user_short}
 
 -- the root that a user with a key founds

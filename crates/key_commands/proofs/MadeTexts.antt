@@ -8,6 +8,7 @@ use Rattle.hex.proofs.HexLemmas.{length-encode_with}
 use Rattle.tg_text.specs.Spelling.{IsHash, IsTitle, begins_well, is_name_byte, is_user_name, line_of, spell_base64, spell_decimal, spell_hex}
 use Rattle.tg_text.proofs.Base64.{length-spell_base64}
 use Rattle.acts.specs.declared.entry.Act.TheVariants.{Found}
+use Rattle.tg_text.specs.Limits.{most_file_bytes}
 use Rattle.team_sets.specs.Names.{Name}
 use Rattle.team_model.specs.declared.terms.Link.{Link}
 use Rattle.link_text.specs.LinkText.{act_line, key_line, sign_line, text, time_line, user_line}
@@ -78,7 +79,7 @@ one_size t l =
     let last : length (frame (text l) ++ []) ≡ length (frame (text l)) + 0 = length-append (frame (text l)) [] in
     omega (arith, all, last)
 
-pub one_short : (t : Name) (l : Link) → IsHash t → length (text l) ≤ 20000 → length (file_text t (l ∷ [])) ≤ 268435456
+pub one_short : (t : Name) (l : Link) → IsHash t → length (text l) ≤ 20000 → length (file_text t (l ∷ [])) ≤ most_file_bytes
 one_short t l is short =
     let digits : length (spell_decimal (length (text l))) ≤ length (text l) + 1 = length-decimal-le_succ (length (text l)) (omega (arith, short)) in
     omega (arith, one_size t l, header_size t, frame_size (text l), digits, is.size, short)

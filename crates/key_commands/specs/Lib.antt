@@ -1,4 +1,5 @@
 pub mod KnownKeys
+pub mod Leaving
 pub mod Make
 pub mod MakeLaws
 pub mod Newkey

@@ -14,6 +14,8 @@ ghost use Rattle.outcomes.specs.Seeing.{AreKnown, Contents, Counts, IsCut, WithF
 ghost use Rattle.outcomes.specs.Ending.{HasCauseOrStop, IsBodyOf, IsCaused, IsFaulted, Runs, answer_of};
 ghost use Rattle.team_words.specs.Words.{IsMake};
 ghost use Rattle.key_commands.specs.KnownKeys.{HoldsKey};
+ghost use Rattle.key_commands.specs.Leaving.{LeavesTeam};
+ghost use Rattle.key_commands.specs.Newkey.{drawn_key};
 ghost use Rattle.key_commands.specs.Make.{does_make, file_of_one, founding, makes, root_puts, signed_body, signing_puts, team_told};
 
 use crate::laws::{made_is_held, make_is_one};
@@ -215,6 +217,8 @@ fn answer_make<F: Files, E: Entropy, K: Sealer>(
         → IsBodyOf (makes K.public file.now key_file.now founder.user founder.title) old new result) }
     ensures cause { (counts : Counts) → IsFaulted (record counts { files = F.faults files.old; draws = E.faults entropy.old })
         (record counts { files = F.faults files.new; draws = E.faults entropy.new }) result }
+    ensures range { (seen : Contents) (w : World) → AreKnown (record seen { draws = E.left entropy.old }) w
+        → IfSome (answer_of result) (λ a. a.status ≡ 0 → IsKeyState (drawn_key founder.user w)) }
     ensures status { IfSome (answer_of result) (λ a. Contains (0 ∷ 3 ∷ []) a.status) }
 {
     must_be_absent(alloc, files, file)?;
@@ -242,6 +246,8 @@ pub fn run_make<F: Files, E: Entropy, C: Clock, I: Source, O: Sink, K: Sealer, L
     ensures runs { Runs (does_make K.public command.now)
         (contents_of F.files E.left C.moment I.left O.taken files.old entropy.old clock.old input.old out.old)
         (contents_of F.files E.left C.moment I.left O.taken files.new entropy.new clock.new input.new out.new) result }
+    ensures made { result ≡ 0 → (w : World) → AreKnown (contents_of F.files E.left C.moment I.left O.taken files.old entropy.old clock.old input.old out.old) w
+        → LeavesTeam command.now (contents_of F.files E.left C.moment I.left O.taken files.new entropy.new clock.new input.new out.new) }
     ensures cause { IsCaused (counts_of F.faults E.faults I.faults O.faults files.old entropy.old input.old out.old)
         (counts_of F.faults E.faults I.faults O.faults files.new entropy.new input.new out.new) result }
     ensures status { result < 5 → Contains (0 ∷ 3 ∷ []) result }
@@ -256,8 +262,9 @@ pub fn run_make<F: Files, E: Entropy, C: Clock, I: Source, O: Sink, K: Sealer, L
             user,
             title,
         } => {
-            // Its clause says that the name is one.
+            // Their clauses say that the name and the title are such.
             let _name = user.as_slice();
+            let _title = title.as_slice();
             let founder = Founder {
                 user: *user,
                 title: *title,

@@ -7,6 +7,7 @@ ghost use Rattle.outcomes.specs.Steps.{World, after, draws, put, puts};
 ghost use Rattle.outcomes.specs.Seeing.{AreKnown, Contents, Counts, IsCut, WithFilesAndDraws, contents_of, counts_of};
 ghost use Rattle.outcomes.specs.Ending.{HasCauseOrStop, IsBodyOf, IsCaused, IsFaulted, Runs, answer_of};
 ghost use Rattle.team_words.specs.Words.{IsNewkey};
+ghost use Rattle.key_commands.specs.Leaving.{LeavesKey};
 ghost use Rattle.key_commands.specs.Newkey.{does_newkey, drawn_key, newkey_text, newkeys};
 
 use crate::laws::newkey_is_one;
@@ -85,6 +86,8 @@ fn answer_newkey<F: Files, E: Entropy, K: Sealer>(
         (λ old new. IsBodyOf (newkeys K.public key_file.now user) old new result) }
     ensures cause { (counts : Counts) → IsFaulted (record counts { files = F.faults files.old; draws = E.faults entropy.old })
         (record counts { files = F.faults files.new; draws = E.faults entropy.new }) result }
+    ensures range { (seen : Contents) (w : World) → AreKnown (record seen { draws = E.left entropy.old }) w → IsTrue (is_user_name user)
+        → IfSome (answer_of result) (λ a. a.status ≡ 0 → IsKeyState (drawn_key user w)) }
     ensures status { IfSome (answer_of result) (λ a. Contains (0 ∷ 3 ∷ []) a.status) }
 {
     must_be_absent(alloc, files, key_file)?;
@@ -109,6 +112,8 @@ pub fn run_newkey<F: Files, E: Entropy, C: Clock, I: Source, O: Sink, K: Sealer,
     ensures runs { Runs (does_newkey K.public command.now)
         (contents_of F.files E.left C.moment I.left O.taken files.old entropy.old clock.old input.old out.old)
         (contents_of F.files E.left C.moment I.left O.taken files.new entropy.new clock.new input.new out.new) result }
+    ensures made { result ≡ 0 → (w : World) → AreKnown (contents_of F.files E.left C.moment I.left O.taken files.old entropy.old clock.old input.old out.old) w
+        → LeavesKey command.now (contents_of F.files E.left C.moment I.left O.taken files.new entropy.new clock.new input.new out.new) }
     ensures cause { IsCaused (counts_of F.faults E.faults I.faults O.faults files.old entropy.old input.old out.old)
         (counts_of F.faults E.faults I.faults O.faults files.new entropy.new input.new out.new) result }
     ensures status { result < 5 → Contains (0 ∷ 3 ∷ []) result }
@@ -116,10 +121,14 @@ pub fn run_newkey<F: Files, E: Entropy, C: Clock, I: Source, O: Sink, K: Sealer,
     // A law: it does nothing at run time.
     newkey_is_one();
     match command {
-        Command::Newkey { key_file, user } => conclude(
-            out,
-            answer_newkey(alloc, files, entropy, sealer, key_file.as_str(), *user),
-        ),
+        Command::Newkey { key_file, user } => {
+            // Its clause says that the name is one.
+            let _name = user.as_slice();
+            conclude(
+                out,
+                answer_newkey(alloc, files, entropy, sealer, key_file.as_str(), *user),
+            )
+        }
         _ => unreachable!(),
     }
 }

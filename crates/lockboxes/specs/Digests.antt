@@ -6,14 +6,14 @@ use Rattle.sha2.specs.Sha256.{digest_bytes, final_hash, initial_hash_256, sha256
 use Rattle.sha2.proofs.Facts256.{length-sha256}
 use Rattle.tg_text.specs.Spelling.{AreBytes, IsHash}
 
-bytes_none : AreBytes []
+pub bytes_none : AreBytes []
 bytes_none = λ i. omega arith
 
 bytes_cons : (b : ℕ) (x : List ℕ) → b < 256 → AreBytes x → AreBytes (b ∷ x)
 bytes_cons b x small are zero = small
 bytes_cons b x small are (suc i) = are i
 
-bytes_append : (x y : List ℕ) → AreBytes x → AreBytes y → AreBytes (x ++ y)
+pub bytes_append : (x y : List ℕ) → AreBytes x → AreBytes y → AreBytes (x ++ y)
 bytes_append [] y are others = others
 bytes_append (b ∷ x) y are others = bytes_cons b (x ++ y) (are 0) (bytes_append x y (λ i. are (suc i)) others)
 
@@ -24,7 +24,7 @@ byte_small : (i n : ℕ) → byte_at i n < 256
 byte_small zero n = low_byte n
 byte_small (suc i) n = low_byte (n / 256 ^ suc i)
 
-bytes_high : (k n : ℕ) → AreBytes (bytes_high_first k n)
+pub bytes_high : (k n : ℕ) → AreBytes (bytes_high_first k n)
 bytes_high zero n = bytes_none
 bytes_high (suc k) n = bytes_cons (byte_at k n) (bytes_high_first k n) (byte_small k n) (bytes_high k n)
 
@@ -34,7 +34,7 @@ bytes_digest h zero = bytes_none
 bytes_digest h (suc n) =
     bytes_append (digest_bytes h n) (to_be_bytes w32 (slice_index h n)) (bytes_digest h n) (bytes_high 4 (slice_index h n))
 
-bytes_sha256 : (m : List ℕ) → AreBytes (sha256 m)
+pub bytes_sha256 : (m : List ℕ) → AreBytes (sha256 m)
 unfolding sha256
 bytes_sha256 m = bytes_digest (final_hash initial_hash_256 m) 8
 

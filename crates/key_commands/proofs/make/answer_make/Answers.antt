@@ -1,4 +1,4 @@
-use Rattle.std.proofs.Common.{◌≡◌, [], ◌∷◌, arith, inr, refl, sym}
+use Rattle.std.proofs.Common.{◌≡◌, [], ◌∷◌, arith, inr, refl, subst, sym}
 use Rattle.outcomes.specs.Steps.{World, Outcome, after, draws}
 use Rattle.outcomes.specs.Seeing.{Contents}
 use Rattle.outcomes.specs.Refusing.{FindsNone, opening}
@@ -10,6 +10,9 @@ use Rattle.tg_outside.specs.declared.fault.Fault.TheVariants as fault
 use Rattle.lms_keep.specs.declared.key_state.KeyState.{KeyState}
 use Rattle.key_commands.specs.Make.{founding, founding_puts, make_text, making_team, root_puts, signed_body, signed_link, team_told}
 use Rattle.key_commands.specs.Newkey.{drawn_key}
+use Rattle.lms_keep.specs.KeyText.{IsKeyState}
+use Rattle.outcomes.proofs.Printing.{fault_answers_nothing}
+use Rattle.key_commands.proofs.Left.{any_answer, refusal_not_zero}
 use Rattle.key_commands.proofs.Foundings.{at_moment, founds}
 use Rattle.key_commands.proofs.make.answer_make.Goals as goal
 
@@ -91,3 +94,24 @@ returns-clause-body g c = λ rest told.
       c.found_team.ensures.done s drew (after (draws 3) w) (c.in_ok-state.ensures.range c.requires) c.in_ok-state.ensures.fresh (sym c.in_ok-prepared.ensures.key) c.in_ok-prepared.ensures.text done.1,
       c.found_team.ensures.cut s drew (after (draws 3) w) (c.in_ok-state.ensures.range c.requires) c.in_ok-state.ensures.fresh (sym c.in_ok-prepared.ensures.key) c.in_ok-prepared.ensures.text done.1,
     ))))
+
+pub returns-in_err-must_be_absent-clause-range : goal.returns-in_err-must_be_absent-clause-range
+returns-in_err-must_be_absent-clause-range g c = λ seen w is.
+    refusal_not_zero (Unit {0}) (IsKeyState (drawn_key c.args.founder.user w)) 3 _ c.in_err-must_be_absent.field-0.0 (omega arith) c.from_residual.ensures.1 c.in_err-must_be_absent.ensures.refused
+
+pub returns-in_err-must_be_absent-2-clause-range : goal.returns-in_err-must_be_absent-2-clause-range
+returns-in_err-must_be_absent-2-clause-range g c = λ seen w is.
+    refusal_not_zero (Unit {0}) (IsKeyState (drawn_key c.args.founder.user w)) 3 _ c.in_err-must_be_absent-2.field-0.0 (omega arith) c.from_residual-in_err-must_be_absent-2.ensures.1 c.in_err-must_be_absent-2.ensures.refused
+
+pub returns-in_err-state-clause-range : goal.returns-in_err-state-clause-range
+returns-in_err-state-clause-range g c = λ seen w is.
+    fault_answers_nothing _ c.in_err-state.field-0.0 (λ a. a.status ≡ 0 → IsKeyState (drawn_key c.args.founder.user w)) c.from_residual-in_err-state.ensures.1
+
+pub returns-in_err-prepared-clause-range : goal.returns-in_err-prepared-clause-range
+returns-in_err-prepared-clause-range g c = λ seen w is.
+    fault_answers_nothing _ fault.Memory (λ a. a.status ≡ 0 → IsKeyState (drawn_key c.args.founder.user w)) c.from_residual-in_err-prepared.ensures.1
+
+pub returns-clause-range : goal.returns-clause-range
+returns-clause-range g c = λ seen w is.
+    any_answer _ (IsKeyState (drawn_key c.args.founder.user w))
+    (subst (λ (k : KeyState). IsKeyState k) (c.in_ok-state.ensures.done seen w is).0 (c.in_ok-state.ensures.range c.requires))

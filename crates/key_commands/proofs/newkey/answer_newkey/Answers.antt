@@ -1,4 +1,4 @@
-use Rattle.std.proofs.Common.{◌≡◌, [], ◌∷◌, ap, arith, inr, refl}
+use Rattle.std.proofs.Common.{◌≡◌, [], ◌∷◌, ap, arith, inr, refl, subst}
 use Rattle.outcomes.specs.Steps.{World, Outcome, acting, after, draws, put}
 use Rattle.outcomes.specs.Seeing.{Contents}
 use Rattle.outcomes.specs.Refusing.{FindsNone}
@@ -8,6 +8,9 @@ use Rattle.outcomes.proofs.Printing.{body_did, body_fails}
 use Rattle.lms_keep.specs.KeyText.{key_text}
 use Rattle.lms_keep.specs.declared.key_state.KeyState.{KeyState}
 use Rattle.key_commands.specs.Newkey.{drawn_key, making, newkey_text}
+use Rattle.lms_keep.specs.KeyText.{IsKeyState}
+use Rattle.outcomes.proofs.Printing.{fault_answers_nothing}
+use Rattle.key_commands.proofs.Left.{refusal_not_zero}
 use Rattle.key_commands.proofs.newkey.answer_newkey.Goals as goal
 
 pub returns-in_err-must_be_absent-clause-status : goal.returns-in_err-must_be_absent-clause-status
@@ -60,3 +63,18 @@ returns-clause-body g c = λ rest.
     (body_did does _ _ _ 0 3 (put name (key_text s) ∷ []) (newkey_text public_of s)
     (λ w is. let done = c.in_ok-state.ensures.done absent w is in
     (ap (λ (k : KeyState). making public_of name k) done.0, c.in_ok-answer.ensures.said.0, c.in_ok-answer.ensures.said.1, c.in_ok-answer.ensures.done drew (after (draws 3) w) done.1)))
+
+pub returns-in_err-must_be_absent-clause-range : goal.returns-in_err-must_be_absent-clause-range
+returns-in_err-must_be_absent-clause-range g c = λ seen w is named.
+    refusal_not_zero (Unit {0}) (IsKeyState (drawn_key c.args.user w)) 3 _ c.in_err-must_be_absent.field-0.0 (omega arith) c.from_residual.ensures.1 c.in_err-must_be_absent.ensures.refused
+
+pub returns-in_err-state-clause-range : goal.returns-in_err-state-clause-range
+returns-in_err-state-clause-range g c = λ seen w is named.
+    fault_answers_nothing _ c.in_err-state.field-0.0 (λ a. a.status ≡ 0 → IsKeyState (drawn_key c.args.user w)) c.from_residual-in_err-state.ensures.1
+
+pub returns-in_err-answer-clause-range : goal.returns-in_err-answer-clause-range
+returns-in_err-answer-clause-range g c = λ seen w is named.
+    fault_answers_nothing _ c.in_err-answer.field-0.0 (λ a. a.status ≡ 0 → IsKeyState (drawn_key c.args.user w)) c.from_residual-in_err-answer.ensures.1
+
+pub returns-clause-range : goal.returns-clause-range
+returns-clause-range g c = λ seen w is named ended. subst (λ (k : KeyState). IsKeyState k) (c.in_ok-state.ensures.done seen w is).0 (c.in_ok-state.ensures.range named)
