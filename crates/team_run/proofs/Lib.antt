@@ -1,1 +1,8 @@
+mod Begun
+mod Cuts
+mod Firsts
+mod Growing
+mod Openings
+mod Served
+mod Shown
 mod Statuses

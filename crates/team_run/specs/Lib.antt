@@ -1,1 +1,3 @@
+pub mod ManyRuns
 pub mod Running
+pub mod Serving

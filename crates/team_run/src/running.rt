@@ -3,7 +3,11 @@ ghost use Rattle.outcomes.specs.Seeing.{contents_of, counts_of};
 ghost use Rattle.outcomes.specs.Ending.{IsCaused, Runs, answer_of};
 ghost use Rattle.team_words.specs.Words.{command_of};
 ghost use Rattle.team_run.specs.Running.{does, does_words, statuses_of};
+ghost use Rattle.team_run.specs.Serving.{IsComplete};
 
+use crate::laws::{
+    make_begins_team, merge_is_done, served_end_well, show_after_runs, teams_are_begun,
+};
 use exchange_commands::run_merge;
 use key_commands::{run_make, run_newkey};
 use lockboxes::Sealer;
@@ -39,7 +43,19 @@ pub fn run<F: Files, E: Entropy, C: Clock, I: Source, O: Sink, K: Sealer, L: Ste
 
     // A command that gives items ends with 0, 1 or 3, every other one with 0 or 3.
     ensures statuses { IfSome (command_of (map string_bytes words.now)) (λ command. result < 5 → Contains (statuses_of command) result) }
+
+    // Where contents are known, the named files are as the command needs them, and no count of faults rises, it does all, or memory is short.
+    ensures complete { IsComplete (command_of (map string_bytes words.now))
+        (contents_of F.files E.left C.moment I.left O.taken files.old entropy.old clock.old input.old out.old)
+        (counts_of F.faults E.faults I.faults O.faults files.old entropy.old input.old out.old)
+        (counts_of F.faults E.faults I.faults O.faults files.new entropy.new input.new out.new) result }
 {
+    // Laws: they do nothing at run time.
+    served_end_well();
+    make_begins_team();
+    teams_are_begun();
+    merge_is_done();
+    show_after_runs();
     match command_of(alloc, words) {
         Ok(Some(command)) => {
             run_command(

@@ -1,11 +1,13 @@
-use Rattle.std.proofs.Common.{◌≡◌, ◌≢◌, ℕ, arith, codes, refl}
+use Rattle.std.proofs.Common.{◌≡◌, ◌≢◌, ℕ, Some, arith, codes, refl}
 use Rattle.std.proofs.lemmas.List.Elements.{All-contains}
 use Rattle.std.proofs.lemmas.Option.{IfSome_then}
 use Rattle.outcomes.specs.Ending.{answer_of}
 use Rattle.outcomes.specs.Seeing.{contents_of, counts_of}
+use Rattle.team_words.specs.Words.{command_of}
 use Rattle.outcomes.specs.Steps.{World, Outcome, saying}
 use Rattle.outcomes.proofs.Printing.{body_says, faulted_none, runs_concluded}
 use Rattle.team_run.specs.Running.{statuses_of}
+use Rattle.team_run.proofs.Served.{complete, complete_short}
 use Rattle.team_run.proofs.Statuses.{ends_with_two, never_two}
 use Rattle.team_run.proofs.running.run.Goals as goal
 
@@ -34,3 +36,11 @@ returns-in-Ok-None-clause-cause g c =
 
 pub returns-in-Ok-None-clause-usage : goal.returns-in-Ok-None-clause-usage
 returns-in-Ok-None-clause-usage g c = λ none lt. ends_with_two _ _ (answer_of c.usage.result) c.conclude.result c.conclude.ensures.concluded c.usage.ensures.said lt
+
+pub returns-in-Ok-Some-clause-complete : goal.returns-in-Ok-Some-clause-complete
+returns-in-Ok-Some-clause-complete g c =
+    let some = rw c.in-Ok-Some.field-0-is at c.in-Ok-Some.ensures in
+    rw (← some) (complete g.K.Sealer.public (Some c.in-Ok-Some.command) _ _ _ _ c.run_command.result c.run_command.ensures.runs c.run_command.ensures.cause)
+
+pub returns-in-Err-clause-complete : goal.returns-in-Err-clause-complete
+returns-in-Err-clause-complete g c = complete_short _ _ _ _

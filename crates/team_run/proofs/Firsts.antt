@@ -1,0 +1,266 @@
+-- How a file that was absent becomes a team's: by a run of `make` alone.
+use Rattle.std.proofs.Common.{◌≡◌, ◌≢◌, ◌⊎◌, ◌∙◌, inl, inr, ℕ, zero, suc, List, [], ◌∷◌, ◌++◌, Option, Some, None, codes, get_or, refl, sym, ap, subst, arith}
+use Rattle.std.specs.FinMap as fin
+use Rattle.tg_outside.specs.Contents.{FileMap}
+use Rattle.team_sets.specs.Names.{Name}
+use Rattle.team_model.specs.ShowText.{show_text}
+use Rattle.team_model.specs.declared.terms.Link.{Link}
+use Rattle.lms_keep.specs.KeyText.{key_text}
+use Rattle.lms_keep.specs.Signing.{advanced}
+use Rattle.lms_keep.specs.declared.key_state.KeyState.{KeyState}
+use Rattle.link_text.specs.TeamFile.{IsFileOf, file_text}
+use Rattle.link_graph.specs.Held.{Held}
+use Rattle.link_intake.specs.Merged.{IsHeldIn}
+use Rattle.link_intake.specs.ResultsText.{results_text}
+use Rattle.outcomes.specs.Refusing.{FindsBytes, FindsNone, opening}
+use Rattle.outcomes.specs.Seeing.{AreKnown, IsCut}
+use Rattle.outcomes.specs.Steps.{World, Step, Outcome, after, after_step, draw, draws, put, puts, replace, saying, take_byte, write, writes}
+use Rattle.team_words.specs.Words.{command_of}
+use Rattle.team_words.specs.declared.command.Command.{Command}
+use Rattle.team_words.specs.declared.command.Command.TheVariants.{Make, Merge, Newkey, Show}
+use Rattle.key_commands.specs.Make.{founding_puts, make_text, making_team}
+use Rattle.key_commands.specs.Newkey.{drawn_key, making, newkey_text}
+use Rattle.exchange_commands.specs.Merge.{merged, merging}
+use Rattle.team_run.specs.ManyRuns.{AreRuns, IsBegun, IsReplaced, IsRun, OneRun, Replaces, TeamsAreBegun, root_of, told}
+use Rattle.team_run.specs.Running.{does_words}
+use Rattle.team_run.specs.Serving.{HoldsTeam}
+use Rattle.team_run.proofs.Cuts.{file_kept, given_bytes, one_name, replaced_or_not, same_files, saying_replaces_none, told_known, writes_replace_none}
+use Rattle.team_run.proofs.Growing.{made_absent, newkey_absent, whole_replaces}
+use Rattle.team_run.proofs.Openings.{IsSaid, absent_or, founds, never_both, some_same, team_or, there_or}
+
+-- the bytes are no team's file
+abbrev IsNoTeam : List ℕ → Type 0
+IsNoTeam bytes = (t : Name) (links : List Link) → ¬ (IsFileOf bytes t links)
+
+key_no_team : (s : KeyState) → IsNoTeam (key_text s)
+key_no_team s t links file = let bad : ◌≡◌ {A = ℕ} 107 102 = ap (λ (bytes : List ℕ). get_or bytes 5 0) file.is_text in omega (arith, bad)
+
+-- each step that replaces the file gives it the bytes of no team's file
+abbrev GivesNoTeam : List ℕ → List Step → Type 0
+GivesNoTeam name [] = Unit {0}
+GivesNoTeam name (draw ∷ steps) = GivesNoTeam name steps
+GivesNoTeam name (take_byte ∷ steps) = GivesNoTeam name steps
+GivesNoTeam name (replace other bytes ∷ steps) = (other ≡ name → IsNoTeam bytes) × GivesNoTeam name steps
+GivesNoTeam name (write byte ∷ steps) = GivesNoTeam name steps
+
+gives_first : (name : List ℕ) (a b : List Step) → GivesNoTeam name (a ++ b) → GivesNoTeam name a
+gives_first name [] b g = tt
+gives_first name (draw ∷ a) b g = gives_first name a b g
+gives_first name (take_byte ∷ a) b g = gives_first name a b g
+gives_first name (replace other bytes ∷ a) b g = (g.0, gives_first name a b g.1)
+gives_first name (write byte ∷ a) b g = gives_first name a b g
+
+gives_both : (name : List ℕ) (a b : List Step) → GivesNoTeam name a → GivesNoTeam name b → GivesNoTeam name (a ++ b)
+gives_both name [] b g h = h
+gives_both name (draw ∷ a) b g h = gives_both name a b g h
+gives_both name (take_byte ∷ a) b g h = gives_both name a b g h
+gives_both name (replace other bytes ∷ a) b g h = (g.0, gives_both name a b g.1 h)
+gives_both name (write byte ∷ a) b g h = gives_both name a b g h
+
+gives_written : (name text : List ℕ) → GivesNoTeam name (writes text)
+gives_written name [] = tt
+gives_written name (b ∷ text) = gives_written name text
+
+gives_drawn : (name : List ℕ) (n : ℕ) → GivesNoTeam name (draws n)
+gives_drawn name zero = tt
+gives_drawn name (suc n) = gives_drawn name n
+
+abbrev HasNoTeam : FileMap → List ℕ → Type 0
+HasNoTeam files name = (bytes : List ℕ) × (fin.get files name ≡ Some bytes) × IsNoTeam bytes
+
+-- what stands in the file after such steps, one of which replaces it
+left_by : (name : List ℕ) (steps : List Step) (w : World) → GivesNoTeam name steps → Replaces name steps → HasNoTeam (after steps w).files name
+left_by name [] w g r = absurd r
+left_by name (draw ∷ steps) w g r = left_by name steps (after_step draw w) g r
+left_by name (take_byte ∷ steps) w g r = left_by name steps (after_step take_byte w) g r
+left_by name (write byte ∷ steps) w g r = left_by name steps (after_step (write byte) w) g r
+left_by name (replace other bytes ∷ steps) w g (inr r) = left_by name steps (after_step (replace other bytes) w) g.1 r
+left_by name (replace other bytes ∷ steps) w g (inl e) = go (replaced_or_not name steps) (λ r. left_by name steps (after_step (replace other bytes) w) g.1 r)
+  where
+    go : Replaces name steps ⊎ (¬ (Replaces name steps)) → (Replaces name steps → HasNoTeam (after (replace other bytes ∷ steps) w).files name)
+        → HasNoTeam (after (replace other bytes ∷ steps) w).files name
+    go (inl r) more = more r
+    go (inr none) more = (
+      bytes,
+      file_kept steps (after_step (replace other bytes) w) name none ∙ subst (λ (n : List ℕ). fin.get (fin.insert w.files other bytes) n ≡ Some bytes) e (given_bytes w.files other bytes),
+      g.0 e,
+    )
+
+module _ (public_of : List ℕ → List ℕ) (w : World) (name : List ℕ) (o : Outcome) (first rest : List Step) (whole : o.steps ≡ first ++ rest) (replaced : Replaces name first) where
+  not_said : {T : Type 0} → IsSaid o → T
+  not_said said = absurd (saying_replaces_none name said.0 3 o first rest said.1 whole replaced)
+
+  -- what an outcome leaves that gives the bytes of no team's file
+  left_of : (p : Outcome) → o ≡ p → GivesNoTeam name p.steps → HasNoTeam (after first w).files name
+  left_of p is g =
+      let here = subst (λ (l : List Step). GivesNoTeam name l) whole (subst (λ (x : Outcome). GivesNoTeam name x.steps) (sym is) g) in
+      left_by name first w (gives_first name first rest here) replaced
+
+  -- a merge that replaced the file found a team's links in it
+  abbrev FoundTeam : Type 0
+  FoundTeam = (held : Held) × HoldsTeam w.files name held
+
+  module _ (file bundle : List ℕ) where
+    merged_found : (held : Held) (bytes : List ℕ) → fin.get w.files file ≡ Some bytes → IsHeldIn bytes held
+        → IsSaid o ⊎ ((given : List ℕ) × (fin.get w.files bundle ≡ Some given) × merging file held given w o) → FoundTeam
+    merged_found held bytes at in_file (inl said) = not_said said
+    merged_found held bytes at in_file (inr (given, at_bundle, (new, results, intake, is))) = go (whole_replaces name o (merged file new results) first rest is whole replaced)
+      where
+        go : (file ≡ name) ⊎ Replaces name (writes (results_text results)) → FoundTeam
+        go (inl e) = (held, (bytes, subst (λ (n : List ℕ). fin.get w.files n ≡ Some bytes) e at, in_file.file))
+        go (inr r) = absurd (writes_replace_none name (results_text results) r)
+
+    merge_found : IsSaid o ⊎ ((held : Held) × (bytes : List ℕ) × (fin.get w.files file ≡ Some bytes) × IsHeldIn bytes held × opening FindsBytes bundle (λ given. merging file held given) w o) → FoundTeam
+    merge_found (inl said) = not_said said
+    merge_found (inr (held, bytes, at, in_file, d)) = merged_found held bytes at in_file (there_or bundle (λ given. merging file held given) w o d)
+
+  -- a command that replaces the file found it absent, or found a team's links in it
+  pub found_before : (command : Option Command) → does_words public_of command w o → (fin.get w.files name ≡ None) ⊎ FoundTeam
+  found_before None d = absurd (saying_replaces_none name (codes "usage\n") 2 o first rest d whole replaced)
+  found_before (Some (Make file key_file user title)) d = inl (made_absent public_of file key_file user title w o name first rest whole replaced d)
+  found_before (Some (Newkey key_file user)) d = inl (newkey_absent public_of key_file user w o name first rest whole replaced d)
+  found_before (Some (Merge file bundle)) d = inr (merge_found file bundle (team_or file (λ held. opening FindsBytes bundle (λ given. merging file held given)) w o d))
+  found_before (Some (Show file)) d = go (team_or file (λ held w o. o ≡ saying 0 (show_text held.team held.links)) w o d)
+    where
+      go : IsSaid o ⊎ ((held : Held) × (bytes : List ℕ) × (fin.get w.files file ≡ Some bytes) × IsHeldIn bytes held × (o ≡ saying 0 (show_text held.team held.links)))
+          → (fin.get w.files name ≡ None) ⊎ FoundTeam
+      go (inl said) = not_said said
+      go (inr (held, bytes, at, in_file, is)) = absurd (saying_replaces_none name (show_text held.team held.links) 0 o first rest is whole replaced)
+
+  abbrev IsMakeOf : Option Command → Type 0
+  IsMakeOf command = (key_file : List ℕ) × (user : List ℕ) × (title : List ℕ) × (command ≡ Some (Make name key_file user title))
+
+  -- a command that replaced an absent file founded its team, or left the bytes of no team's file
+  abbrev Left : Option Command → Type 0
+  Left command = HasNoTeam (after first w).files name ⊎ IsMakeOf command
+
+  module _ (file key_file user title : List ℕ) where
+    make_gives : file ≢ name → GivesNoTeam name (making_team public_of file key_file title w.moment (drawn_key user w)).steps
+    make_gives differ =
+        let root = root_of public_of user title w in
+        let s = drawn_key user w in
+        gives_both name (draws 3) (puts (founding_puts file key_file s root) ++ writes (make_text root)) (gives_drawn name 3)
+        ((λ e. key_no_team s), ((λ e. key_no_team (advanced s)), ((λ e. absurd (differ e)), gives_written name (make_text root))))
+
+    make_by_key : file ≢ name → IsSaid o ⊎ ((none : Unit {0}) × (fin.get w.files key_file ≡ None) × founds public_of file key_file user title w o) → HasNoTeam (after first w).files name
+    make_by_key differ (inl said) = not_said said
+    make_by_key differ (inr (none, k, is)) = left_of (making_team public_of file key_file title w.moment (drawn_key user w)) is (make_gives differ)
+
+    make_by_file : file ≢ name → IsSaid o ⊎ ((none : Unit {0}) × (fin.get w.files file ≡ None) × opening FindsNone key_file (λ none. founds public_of file key_file user title) w o)
+        → HasNoTeam (after first w).files name
+    make_by_file differ (inl said) = not_said said
+    make_by_file differ (inr (none, f, d)) = make_by_key differ (absent_or key_file (λ none. founds public_of file key_file user title) w o d)
+
+    make_left : does_words public_of (Some (Make file key_file user title)) w o → (file ≡ name) ⊎ (file ≢ name) → Left (Some (Make file key_file user title))
+    make_left d (inl e) = inr (key_file, user, title, ap (λ (n : List ℕ). Some (Make n key_file user title)) e)
+    make_left d (inr differ) = inl (make_by_file differ (absent_or file (λ none. opening FindsNone key_file (λ none. founds public_of file key_file user title)) w o d))
+
+  newkey_left : (key_file user : List ℕ) → IsSaid o ⊎ ((none : Unit {0}) × (fin.get w.files key_file ≡ None) × (o ≡ making public_of key_file (drawn_key user w))) → HasNoTeam (after first w).files name
+  newkey_left key_file user (inl said) = not_said said
+  newkey_left key_file user (inr (none, k, is)) =
+      let s = drawn_key user w in
+      left_of (making public_of key_file s) is
+      (gives_both name (draws 3) (puts (put key_file (key_text s) ∷ []) ++ writes (newkey_text public_of s)) (gives_drawn name 3) ((λ e. key_no_team s), gives_written name (newkey_text public_of s)))
+
+  pub command_left : (command : Option Command) → does_words public_of command w o → fin.get w.files name ≡ None → Left command
+  command_left None d none = absurd (saying_replaces_none name (codes "usage\n") 2 o first rest d whole replaced)
+  command_left (Some (Make file key_file user title)) d none = make_left file key_file user title d (one_name file name)
+  command_left (Some (Newkey key_file user)) d none = inl (newkey_left key_file user (absent_or key_file (λ none w o. o ≡ making public_of key_file (drawn_key user w)) w o d))
+  command_left (Some (Merge file bundle)) d none =
+      let team = merge_found file bundle (team_or file (λ held. opening FindsBytes bundle (λ given. merging file held given)) w o d) in
+      absurd (never_both (fin.get w.files name) team.1.0 team.1.1 none)
+  command_left (Some (Show file)) d none = inl (shown (team_or file (λ held w o. o ≡ saying 0 (show_text held.team held.links)) w o d))
+    where
+      shown : IsSaid o ⊎ ((held : Held) × (bytes : List ℕ) × (fin.get w.files file ≡ Some bytes) × IsHeldIn bytes held × (o ≡ saying 0 (show_text held.team held.links))) → HasNoTeam (after first w).files name
+      shown (inl said) = not_said said
+      shown (inr (held, bytes, at, in_file, is)) = absurd (saying_replaces_none name (show_text held.team held.links) 0 o first rest is whole replaced)
+
+module _ (public_of : List ℕ → List ℕ) (name : List ℕ) where
+  -- one run
+  module _ (r : OneRun) (is : IsRun public_of r) where
+    same_here : (w : World) → AreKnown (told r.new) w → fin.get w.files name ≡ fin.get r.old.files name → fin.get r.new.files name ≡ fin.get r.old.files name
+    same_here w new same = ap (λ (m : FileMap). fin.get m name) (same_files r.new w new) ∙ same
+
+    -- a file that is there and no team's stays
+    other_stays : (bytes : List ℕ) → fin.get r.old.files name ≡ Some bytes → IsNoTeam bytes → fin.get r.new.files name ≡ Some bytes
+    other_stays bytes at none = go (is.cut r.old (told_known r.old)) ∙ at
+      where
+        never : (fin.get r.old.files name ≡ None) ⊎ ((held : Held) × HoldsTeam r.old.files name held) → fin.get r.new.files name ≡ fin.get r.old.files name
+        never (inl absent) = absurd (never_both (fin.get r.old.files name) bytes at absent)
+        never (inr (held, (b, there, file))) = absurd (none held.team held.links (subst (λ (x : List ℕ). IsFileOf x held.team held.links) (some_same b bytes (sym there ∙ at)) file))
+
+        by_cut : (o : Outcome) → does_words public_of (command_of r.words) r.old o → (cut : IsCut (told r.new) o.steps r.old) → Replaces name cut.first ⊎ (¬ (Replaces name cut.first))
+            → fin.get r.new.files name ≡ fin.get r.old.files name
+        by_cut o d cut (inl hit) = never (found_before public_of r.old name o cut.first cut.rest cut.whole hit (command_of r.words) d)
+        by_cut o d cut (inr miss) = same_here (after cut.first r.old) cut.told (file_kept cut.first r.old name miss)
+
+        go : AreKnown (told r.new) r.old ⊎ ((o : Outcome) × does_words public_of (command_of r.words) r.old o × IsCut (told r.new) o.steps r.old) → fin.get r.new.files name ≡ fin.get r.old.files name
+        go (inl nothing) = same_here r.old nothing refl
+        go (inr (o, d, cut)) = by_cut o d cut (replaced_or_not name cut.first)
+
+    -- what an absent file becomes
+    abbrev Becomes : Type 0
+    Becomes = (fin.get r.new.files name ≡ None)
+        ⊎ (HasNoTeam r.new.files name ⊎ (((key_file : List ℕ) × (user : List ℕ) × (title : List ℕ) × (command_of r.words ≡ Some (Make name key_file user title))) × IsReplaced public_of r name))
+
+    absent_becomes : fin.get r.old.files name ≡ None → Becomes
+    absent_becomes none = go (is.cut r.old (told_known r.old))
+      where
+        left : (o : Outcome) → does_words public_of (command_of r.words) r.old o → (cut : IsCut (told r.new) o.steps r.old) → Replaces name cut.first
+            → HasNoTeam (after cut.first r.old).files name ⊎ ((key_file : List ℕ) × (user : List ℕ) × (title : List ℕ) × (command_of r.words ≡ Some (Make name key_file user title))) → Becomes
+        left o d cut hit (inl other) = inr (inl (subst (λ (m : FileMap). HasNoTeam m name) (sym (same_files r.new (after cut.first r.old) cut.told)) other))
+        left o d cut hit (inr make) = inr (inr (make, record { outcome = o; does = d; cut = cut; replaced = hit }))
+
+        by_cut : (o : Outcome) → does_words public_of (command_of r.words) r.old o → (cut : IsCut (told r.new) o.steps r.old) → Replaces name cut.first ⊎ (¬ (Replaces name cut.first)) → Becomes
+        by_cut o d cut (inl hit) = left o d cut hit (command_left public_of r.old name o cut.first cut.rest cut.whole hit (command_of r.words) d none)
+        by_cut o d cut (inr miss) = inl (same_here (after cut.first r.old) cut.told (file_kept cut.first r.old name miss) ∙ none)
+
+        go : AreKnown (told r.new) r.old ⊎ ((o : Outcome) × does_words public_of (command_of r.words) r.old o × IsCut (told r.new) o.steps r.old) → Becomes
+        go (inl nothing) = inl (same_here r.old nothing refl ∙ none)
+        go (inr (o, d, cut)) = by_cut o d cut (replaced_or_not name cut.first)
+
+  -- so a file that is there and no team's is none after any runs
+  never_team : (files last : FileMap) (runs : List OneRun) (new : Held) → AreRuns public_of files runs last → HasNoTeam files name → ¬ (HoldsTeam last name new)
+  never_team files last [] new are (bytes, at, none) (b, there, file) =
+      let same = some_same b bytes (sym there ∙ ap (λ (m : FileMap). fin.get m name) are ∙ at) in
+      none new.team new.links (subst (λ (x : List ℕ). IsFileOf x new.team new.links) same file)
+  never_team files last (r ∷ runs) new are (bytes, at, none) there =
+      never_team r.new.files last runs new are.2 (bytes, other_stays r are.1 bytes (ap (λ (m : FileMap). fin.get m name) are.0 ∙ at) none, none) there
+
+  later : (last : FileMap) (runs : List OneRun) (r : OneRun) → IsBegun public_of runs name last → IsBegun public_of (r ∷ runs) name last
+  later last runs r b = record {
+    before = r ∷ b.before;
+    made = b.made;
+    more = b.more;
+    key_file = b.key_file;
+    user = b.user;
+    title = b.title;
+    whole = ap (λ (l : List OneRun). r ∷ l) b.whole;
+    words = b.words;
+    replaced = b.replaced;
+    follow = b.follow;
+  }
+
+  team_begun : (files last : FileMap) (runs : List OneRun) (new : Held) → AreRuns public_of files runs last → fin.get files name ≡ None → HoldsTeam last name new → IsBegun public_of runs name last
+  team_begun files last [] new are none there = absurd (never_both (fin.get last name) there.0 there.1 (ap (λ (m : FileMap). fin.get m name) are ∙ none))
+  team_begun files last (r ∷ runs) new are none there =
+      go (absent_becomes r are.1 (ap (λ (m : FileMap). fin.get m name) are.0 ∙ none)) (λ absent. team_begun r.new.files last runs new are.2 absent there)
+    where
+      go : Becomes r are.1 → (fin.get r.new.files name ≡ None → IsBegun public_of runs name last) → IsBegun public_of (r ∷ runs) name last
+      go (inl absent) more = later last runs r (more absent)
+      go (inr (inl other)) more = absurd (never_team r.new.files last runs new are.2 other there)
+      go (inr (inr (make, replaced))) more = record {
+        before = [];
+        made = r;
+        more = runs;
+        key_file = make.0;
+        user = make.1;
+        title = make.2;
+        whole = refl;
+        words = make.3;
+        replaced = replaced;
+        follow = are.2;
+      }
+
+pub teams_begun : TeamsAreBegun
+teams_begun public_of files last runs name new are none there = team_begun public_of name files last runs new are none there
