@@ -1,10 +1,10 @@
 -- The file of a team that a run founded.
-use Rattle.std.proofs.Common.{◌≡◌, ◌≢◌, ◌<◌, ◌⊎◌, ◌∙◌, ◌&&◌, inl, inr, ℕ, zero, suc, Bool, true, false, cond, not, IsTrue, List, [], ◌∷◌, ◌++◌, Option, Some, None, length, codes, get_or, replicate, slice_index, nat_eq, nat_le, refl, sym, ap, subst, append_assoc, arith}
+use Rattle.std.proofs.Common.{◌≡◌, ◌≢◌, ◌⊎◌, ◌∙◌, ◌&&◌, inl, inr, ℕ, zero, suc, Bool, true, false, cond, not, IsTrue, List, [], ◌∷◌, ◌++◌, Option, Some, None, length, codes, get_or, replicate, nat_eq, nat_le, refl, sym, ap, subst, append_assoc, arith}
 use Rattle.std.specs.FinMap as fin
 use Rattle.std.specs.List.{AllByRecursion, list_all}
 use Rattle.std.specs.Str.{is_utf8}
 use Rattle.std.specs.Cmp.Lexicographic.{pointwise}
-use Rattle.std.proofs.lemmas.Bool.{and_parts, false≢true, leb-true, not-true}
+use Rattle.std.proofs.lemmas.Bool.{and_parts, false≢true, leb-true}
 use Rattle.std.proofs.lemmas.Bool.Decides.{Decides-eqb}
 use Rattle.std.proofs.lemmas.Slice.Eq.{slice_eq-Decides}
 use Rattle.std.proofs.lemmas.Str.{IsUtf8-from_is_utf8}
@@ -23,7 +23,7 @@ use Rattle.team_words.specs.declared.command.Command.TheVariants.{Make, Merge, N
 use Rattle.key_commands.specs.Make.{make_text, making_team}
 use Rattle.key_commands.specs.MakeLaws.{MadeIsHeld}
 use Rattle.key_commands.specs.Newkey.{drawn_key}
-use Rattle.team_run.specs.ManyRuns.{IsReplaced, MakeBeginsTeam, OneRun, Replaces, TellsInRange, alone, root_of, told}
+use Rattle.team_run.specs.ManyRuns.{MakeBeginsTeam, OneRun, Replaces, TellsInRange, alone, root_of, told}
 use Rattle.team_run.specs.Running.{does_words}
 use Rattle.team_run.specs.Serving.{HoldsTeam}
 use Rattle.team_run.proofs.Cuts.{draws_replace_none, last_bytes, replaces_part, same_files, saying_replaces_none}

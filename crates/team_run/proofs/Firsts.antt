@@ -1,4 +1,4 @@
--- How a file that was absent becomes a team's: by a run of `make` alone.
+-- How a file in which no team stands becomes a team's: by a run of `make` alone.
 use Rattle.std.proofs.Common.{◌≡◌, ◌≢◌, ◌⊎◌, ◌∙◌, inl, inr, ℕ, zero, suc, List, [], ◌∷◌, ◌++◌, Option, Some, None, codes, get_or, refl, sym, ap, subst, arith}
 use Rattle.std.specs.FinMap as fin
 use Rattle.tg_outside.specs.Contents.{FileMap}
@@ -8,7 +8,7 @@ use Rattle.team_model.specs.declared.terms.Link.{Link}
 use Rattle.lms_keep.specs.KeyText.{key_text}
 use Rattle.lms_keep.specs.Signing.{advanced}
 use Rattle.lms_keep.specs.declared.key_state.KeyState.{KeyState}
-use Rattle.link_text.specs.TeamFile.{IsFileOf, file_text}
+use Rattle.link_text.specs.TeamFile.{IsFileOf}
 use Rattle.link_graph.specs.Held.{Held}
 use Rattle.link_intake.specs.Merged.{IsHeldIn}
 use Rattle.link_intake.specs.ResultsText.{results_text}
@@ -21,12 +21,12 @@ use Rattle.team_words.specs.declared.command.Command.TheVariants.{Make, Merge, N
 use Rattle.key_commands.specs.Make.{founding_puts, make_text, making_team}
 use Rattle.key_commands.specs.Newkey.{drawn_key, making, newkey_text}
 use Rattle.exchange_commands.specs.Merge.{merged, merging}
-use Rattle.team_run.specs.ManyRuns.{AreRuns, IsBegun, IsReplaced, IsRun, OneRun, Replaces, TeamsAreBegun, root_of, told}
+use Rattle.team_run.specs.ManyRuns.{AreRuns, HoldsNone, IsBegun, IsReplaced, IsRun, OneRun, Replaces, TeamsAreBegun, root_of, told}
 use Rattle.team_run.specs.Running.{does_words}
 use Rattle.team_run.specs.Serving.{HoldsTeam}
 use Rattle.team_run.proofs.Cuts.{file_kept, given_bytes, one_name, replaced_or_not, same_files, saying_replaces_none, told_known, writes_replace_none}
-use Rattle.team_run.proofs.Growing.{made_absent, newkey_absent, whole_replaces}
-use Rattle.team_run.proofs.Openings.{IsSaid, absent_or, founds, never_both, some_same, team_or, there_or}
+use Rattle.team_run.proofs.Growing.{whole_replaces}
+use Rattle.team_run.proofs.Openings.{IsSaid, absent_or, founds, some_same, team_or, there_or}
 
 -- the bytes are no team's file
 abbrev IsNoTeam : List ℕ → Type 0
@@ -114,23 +114,10 @@ module _ (public_of : List ℕ → List ℕ) (w : World) (name : List ℕ) (o : 
     merge_found (inl said) = not_said said
     merge_found (inr (held, bytes, at, in_file, d)) = merged_found held bytes at in_file (there_or bundle (λ given. merging file held given) w o d)
 
-  -- a command that replaces the file found it absent, or found a team's links in it
-  pub found_before : (command : Option Command) → does_words public_of command w o → (fin.get w.files name ≡ None) ⊎ FoundTeam
-  found_before None d = absurd (saying_replaces_none name (codes "usage\n") 2 o first rest d whole replaced)
-  found_before (Some (Make file key_file user title)) d = inl (made_absent public_of file key_file user title w o name first rest whole replaced d)
-  found_before (Some (Newkey key_file user)) d = inl (newkey_absent public_of key_file user w o name first rest whole replaced d)
-  found_before (Some (Merge file bundle)) d = inr (merge_found file bundle (team_or file (λ held. opening FindsBytes bundle (λ given. merging file held given)) w o d))
-  found_before (Some (Show file)) d = go (team_or file (λ held w o. o ≡ saying 0 (show_text held.team held.links)) w o d)
-    where
-      go : IsSaid o ⊎ ((held : Held) × (bytes : List ℕ) × (fin.get w.files file ≡ Some bytes) × IsHeldIn bytes held × (o ≡ saying 0 (show_text held.team held.links)))
-          → (fin.get w.files name ≡ None) ⊎ FoundTeam
-      go (inl said) = not_said said
-      go (inr (held, bytes, at, in_file, is)) = absurd (saying_replaces_none name (show_text held.team held.links) 0 o first rest is whole replaced)
-
   abbrev IsMakeOf : Option Command → Type 0
   IsMakeOf command = (key_file : List ℕ) × (user : List ℕ) × (title : List ℕ) × (command ≡ Some (Make name key_file user title))
 
-  -- a command that replaced an absent file founded its team, or left the bytes of no team's file
+  -- a command that replaced a file in which no team stood founded its team, or left the bytes of no team's file
   abbrev Left : Option Command → Type 0
   Left command = HasNoTeam (after first w).files name ⊎ IsMakeOf command
 
@@ -162,70 +149,50 @@ module _ (public_of : List ℕ → List ℕ) (w : World) (name : List ℕ) (o : 
       left_of (making public_of key_file s) is
       (gives_both name (draws 3) (puts (put key_file (key_text s) ∷ []) ++ writes (newkey_text public_of s)) (gives_drawn name 3) ((λ e. key_no_team s), gives_written name (newkey_text public_of s)))
 
-  pub command_left : (command : Option Command) → does_words public_of command w o → fin.get w.files name ≡ None → Left command
+  pub command_left : (command : Option Command) → does_words public_of command w o → HoldsNone w.files name → Left command
   command_left None d none = absurd (saying_replaces_none name (codes "usage\n") 2 o first rest d whole replaced)
   command_left (Some (Make file key_file user title)) d none = make_left file key_file user title d (one_name file name)
   command_left (Some (Newkey key_file user)) d none = inl (newkey_left key_file user (absent_or key_file (λ none w o. o ≡ making public_of key_file (drawn_key user w)) w o d))
   command_left (Some (Merge file bundle)) d none =
       let team = merge_found file bundle (team_or file (λ held. opening FindsBytes bundle (λ given. merging file held given)) w o d) in
-      absurd (never_both (fin.get w.files name) team.1.0 team.1.1 none)
+      absurd (none team.0 team.1)
   command_left (Some (Show file)) d none = inl (shown (team_or file (λ held w o. o ≡ saying 0 (show_text held.team held.links)) w o d))
     where
       shown : IsSaid o ⊎ ((held : Held) × (bytes : List ℕ) × (fin.get w.files file ≡ Some bytes) × IsHeldIn bytes held × (o ≡ saying 0 (show_text held.team held.links))) → HasNoTeam (after first w).files name
       shown (inl said) = not_said said
       shown (inr (held, bytes, at, in_file, is)) = absurd (saying_replaces_none name (show_text held.team held.links) 0 o first rest is whole replaced)
 
+-- a file that has the bytes of no team's file, or those of one in which no team stands
+holds_none : (files : FileMap) (name : List ℕ) → HasNoTeam files name → HoldsNone files name
+holds_none files name (bytes, at, none) held (b, there, file) =
+    none held.team held.links (subst (λ (x : List ℕ). IsFileOf x held.team held.links) (some_same b bytes (sym there ∙ at)) file)
+
+still_none : (files more : FileMap) (name : List ℕ) → fin.get more name ≡ fin.get files name → HoldsNone files name → HoldsNone more name
+still_none files more name same none held (bytes, there, file) = none held (bytes, sym same ∙ there, file)
+
 module _ (public_of : List ℕ → List ℕ) (name : List ℕ) where
   -- one run
-  module _ (r : OneRun) (is : IsRun public_of r) where
-    same_here : (w : World) → AreKnown (told r.new) w → fin.get w.files name ≡ fin.get r.old.files name → fin.get r.new.files name ≡ fin.get r.old.files name
-    same_here w new same = ap (λ (m : FileMap). fin.get m name) (same_files r.new w new) ∙ same
-
-    -- a file that is there and no team's stays
-    other_stays : (bytes : List ℕ) → fin.get r.old.files name ≡ Some bytes → IsNoTeam bytes → fin.get r.new.files name ≡ Some bytes
-    other_stays bytes at none = go (is.cut r.old (told_known r.old)) ∙ at
-      where
-        never : (fin.get r.old.files name ≡ None) ⊎ ((held : Held) × HoldsTeam r.old.files name held) → fin.get r.new.files name ≡ fin.get r.old.files name
-        never (inl absent) = absurd (never_both (fin.get r.old.files name) bytes at absent)
-        never (inr (held, (b, there, file))) = absurd (none held.team held.links (subst (λ (x : List ℕ). IsFileOf x held.team held.links) (some_same b bytes (sym there ∙ at)) file))
-
-        by_cut : (o : Outcome) → does_words public_of (command_of r.words) r.old o → (cut : IsCut (told r.new) o.steps r.old) → Replaces name cut.first ⊎ (¬ (Replaces name cut.first))
-            → fin.get r.new.files name ≡ fin.get r.old.files name
-        by_cut o d cut (inl hit) = never (found_before public_of r.old name o cut.first cut.rest cut.whole hit (command_of r.words) d)
-        by_cut o d cut (inr miss) = same_here (after cut.first r.old) cut.told (file_kept cut.first r.old name miss)
-
-        go : AreKnown (told r.new) r.old ⊎ ((o : Outcome) × does_words public_of (command_of r.words) r.old o × IsCut (told r.new) o.steps r.old) → fin.get r.new.files name ≡ fin.get r.old.files name
-        go (inl nothing) = same_here r.old nothing refl
-        go (inr (o, d, cut)) = by_cut o d cut (replaced_or_not name cut.first)
-
-    -- what an absent file becomes
+  module _ (r : OneRun) (is : IsRun public_of r) (none : HoldsNone r.old.files name) where
     abbrev Becomes : Type 0
-    Becomes = (fin.get r.new.files name ≡ None)
-        ⊎ (HasNoTeam r.new.files name ⊎ (((key_file : List ℕ) × (user : List ℕ) × (title : List ℕ) × (command_of r.words ≡ Some (Make name key_file user title))) × IsReplaced public_of r name))
+    Becomes = HoldsNone r.new.files name
+        ⊎ (((key_file : List ℕ) × (user : List ℕ) × (title : List ℕ) × (command_of r.words ≡ Some (Make name key_file user title))) × IsReplaced public_of r name)
 
-    absent_becomes : fin.get r.old.files name ≡ None → Becomes
-    absent_becomes none = go (is.cut r.old (told_known r.old))
-      where
-        left : (o : Outcome) → does_words public_of (command_of r.words) r.old o → (cut : IsCut (told r.new) o.steps r.old) → Replaces name cut.first
-            → HasNoTeam (after cut.first r.old).files name ⊎ ((key_file : List ℕ) × (user : List ℕ) × (title : List ℕ) × (command_of r.words ≡ Some (Make name key_file user title))) → Becomes
-        left o d cut hit (inl other) = inr (inl (subst (λ (m : FileMap). HasNoTeam m name) (sym (same_files r.new (after cut.first r.old) cut.told)) other))
-        left o d cut hit (inr make) = inr (inr (make, record { outcome = o; does = d; cut = cut; replaced = hit }))
+    left : (o : Outcome) → does_words public_of (command_of r.words) r.old o → (cut : IsCut (told r.new) o.steps r.old) → Replaces name cut.first
+        → HasNoTeam (after cut.first r.old).files name ⊎ ((key_file : List ℕ) × (user : List ℕ) × (title : List ℕ) × (command_of r.words ≡ Some (Make name key_file user title))) → Becomes
+    left o d cut hit (inl other) = inl (holds_none r.new.files name (subst (λ (m : FileMap). HasNoTeam m name) (sym (same_files r.new (after cut.first r.old) cut.told)) other))
+    left o d cut hit (inr make) = inr (make, record { outcome = o; does = d; cut = cut; replaced = hit })
 
-        by_cut : (o : Outcome) → does_words public_of (command_of r.words) r.old o → (cut : IsCut (told r.new) o.steps r.old) → Replaces name cut.first ⊎ (¬ (Replaces name cut.first)) → Becomes
-        by_cut o d cut (inl hit) = left o d cut hit (command_left public_of r.old name o cut.first cut.rest cut.whole hit (command_of r.words) d none)
-        by_cut o d cut (inr miss) = inl (same_here (after cut.first r.old) cut.told (file_kept cut.first r.old name miss) ∙ none)
+    by_cut : (o : Outcome) → does_words public_of (command_of r.words) r.old o → (cut : IsCut (told r.new) o.steps r.old) → Replaces name cut.first ⊎ (¬ (Replaces name cut.first)) → Becomes
+    by_cut o d cut (inl hit) = left o d cut hit (command_left public_of r.old name o cut.first cut.rest cut.whole hit (command_of r.words) d none)
+    by_cut o d cut (inr miss) =
+        inl (still_none r.old.files r.new.files name (ap (λ (m : FileMap). fin.get m name) (same_files r.new (after cut.first r.old) cut.told) ∙ file_kept cut.first r.old name miss) none)
 
-        go : AreKnown (told r.new) r.old ⊎ ((o : Outcome) × does_words public_of (command_of r.words) r.old o × IsCut (told r.new) o.steps r.old) → Becomes
-        go (inl nothing) = inl (same_here r.old nothing refl ∙ none)
-        go (inr (o, d, cut)) = by_cut o d cut (replaced_or_not name cut.first)
+    cut_becomes : AreKnown (told r.new) r.old ⊎ ((o : Outcome) × does_words public_of (command_of r.words) r.old o × IsCut (told r.new) o.steps r.old) → Becomes
+    cut_becomes (inl nothing) = inl (still_none r.old.files r.new.files name (ap (λ (m : FileMap). fin.get m name) (same_files r.new r.old nothing)) none)
+    cut_becomes (inr (o, d, cut)) = by_cut o d cut (replaced_or_not name cut.first)
 
-  -- so a file that is there and no team's is none after any runs
-  never_team : (files last : FileMap) (runs : List OneRun) (new : Held) → AreRuns public_of files runs last → HasNoTeam files name → ¬ (HoldsTeam last name new)
-  never_team files last [] new are (bytes, at, none) (b, there, file) =
-      let same = some_same b bytes (sym there ∙ ap (λ (m : FileMap). fin.get m name) are ∙ at) in
-      none new.team new.links (subst (λ (x : List ℕ). IsFileOf x new.team new.links) same file)
-  never_team files last (r ∷ runs) new are (bytes, at, none) there =
-      never_team r.new.files last runs new are.2 (bytes, other_stays r are.1 bytes (ap (λ (m : FileMap). fin.get m name) are.0 ∙ at) none, none) there
+    becomes : Becomes
+    becomes = cut_becomes (is.cut r.old (told_known r.old))
 
   later : (last : FileMap) (runs : List OneRun) (r : OneRun) → IsBegun public_of runs name last → IsBegun public_of (r ∷ runs) name last
   later last runs r b = record {
@@ -241,15 +208,15 @@ module _ (public_of : List ℕ → List ℕ) (name : List ℕ) where
     follow = b.follow;
   }
 
-  team_begun : (files last : FileMap) (runs : List OneRun) (new : Held) → AreRuns public_of files runs last → fin.get files name ≡ None → HoldsTeam last name new → IsBegun public_of runs name last
-  team_begun files last [] new are none there = absurd (never_both (fin.get last name) there.0 there.1 (ap (λ (m : FileMap). fin.get m name) are ∙ none))
+  team_begun : (files last : FileMap) (runs : List OneRun) (new : Held) → AreRuns public_of files runs last → HoldsNone files name → HoldsTeam last name new → IsBegun public_of runs name last
+  team_begun files last [] new are none there = absurd (none new (subst (λ (m : FileMap). HoldsTeam m name new) are there))
   team_begun files last (r ∷ runs) new are none there =
-      go (absent_becomes r are.1 (ap (λ (m : FileMap). fin.get m name) are.0 ∙ none)) (λ absent. team_begun r.new.files last runs new are.2 absent there)
+      go (becomes r are.1 (subst (λ (m : FileMap). HoldsNone m name) (sym are.0) none)) (λ still. team_begun r.new.files last runs new are.2 still there)
     where
-      go : Becomes r are.1 → (fin.get r.new.files name ≡ None → IsBegun public_of runs name last) → IsBegun public_of (r ∷ runs) name last
-      go (inl absent) more = later last runs r (more absent)
-      go (inr (inl other)) more = absurd (never_team r.new.files last runs new are.2 other there)
-      go (inr (inr (make, replaced))) more = record {
+      go : HoldsNone r.new.files name ⊎ (((key_file : List ℕ) × (user : List ℕ) × (title : List ℕ) × (command_of r.words ≡ Some (Make name key_file user title))) × IsReplaced public_of r name)
+          → (HoldsNone r.new.files name → IsBegun public_of runs name last) → IsBegun public_of (r ∷ runs) name last
+      go (inl still) more = later last runs r (more still)
+      go (inr (make, replaced)) more = record {
         before = [];
         made = r;
         more = runs;

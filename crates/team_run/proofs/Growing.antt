@@ -1,8 +1,7 @@
 -- What runs make of a file that held a team's links.
-use Rattle.std.proofs.Common.{◌≡◌, ◌≢◌, ◌⊎◌, ◌↔◌, ◌∙◌, inl, inr, ℕ, List, [], ◌∷◌, ◌++◌, Option, Some, None, codes, refl, sym, ap, subst}
+use Rattle.std.proofs.Common.{◌≡◌, ◌⊎◌, ◌↔◌, ◌∙◌, inl, inr, ℕ, List, [], ◌∷◌, ◌++◌, Option, Some, None, codes, refl, sym, ap, subst}
 use Rattle.std.specs.FinMap as fin
 use Rattle.tg_outside.specs.Contents.{FileMap}
-use Rattle.team_sets.specs.Members.{IsIn}
 use Rattle.team_model.specs.ShowText.{show_text}
 use Rattle.team_model.specs.declared.terms.Link.{Link}
 use Rattle.lms_keep.specs.KeyText.{key_text}
@@ -11,7 +10,6 @@ use Rattle.link_text.specs.LinkText.{LinkIsSpelledOnce}
 use Rattle.link_text.specs.TeamFile.{IsFileOf, file_text}
 use Rattle.link_graph.specs.Held.{Held}
 use Rattle.link_graph.specs.Taking.{HasText}
-use Rattle.team_files.specs.Bundles.{IsBundle}
 use Rattle.team_files.specs.FileLaws.{FileIsReadOnce}
 use Rattle.team_files.specs.Pieces.{BundleIsReadOnce}
 use Rattle.team_files.specs.declared.item.Item.{Item}
@@ -28,9 +26,9 @@ use Rattle.outcomes.specs.Steps.{World, Step, Outcome, after, draws, put, puts, 
 use Rattle.team_words.specs.Words.{command_of}
 use Rattle.team_words.specs.declared.command.Command.{Command}
 use Rattle.team_words.specs.declared.command.Command.TheVariants.{Make, Merge, Newkey, Show}
-use Rattle.key_commands.specs.Make.{founding, founding_puts, make_text, making_team, signed_link}
+use Rattle.key_commands.specs.Make.{founding_puts, make_text, making_team}
 use Rattle.key_commands.specs.Newkey.{drawn_key, making, newkey_text}
-use Rattle.exchange_commands.specs.Merge.{merged, merges, merging}
+use Rattle.exchange_commands.specs.Merge.{merged, merging}
 use Rattle.team_run.specs.ManyRuns.{AreRuns, IsGivenBy, IsGivenIn, IsReplaced, IsRun, OneRun, Replaces, WordsGive, root_of, told}
 use Rattle.team_run.specs.Running.{does_words}
 use Rattle.team_run.specs.Serving.{HoldsTeam}

@@ -1,7 +1,6 @@
 -- What was found where an outcome isn't a refusal.
 use Rattle.std.proofs.Common.{◌≡◌, ◌⊎◌, ◌∙◌, inl, inr, ℕ, List, Option, Some, None, refl, sym, ap, subst}
 use Rattle.std.specs.FinMap as fin
-use Rattle.link_text.specs.TeamFile.{IsFileOf}
 use Rattle.link_graph.specs.Held.{Held}
 use Rattle.link_intake.specs.Merged.{IsHeldIn}
 use Rattle.outcomes.specs.Refusing.{FindsBytes, FindsNone, Found, by_found, fault_line, holds, opening, refuses}

@@ -2,7 +2,6 @@
 use Rattle.std.proofs.Common.{◌≡◌, ◌≤◌, ◌<◌, ◌⊎◌, inl, inr, ℕ, List, Option, Some, None, refl, sym, ap, subst, arith}
 use Rattle.std.proofs.lemmas.Bool.{cases_lt}
 use Rattle.team_model.specs.ShowText.{show_text}
-use Rattle.link_graph.specs.Held.{Held}
 use Rattle.outcomes.specs.Ending.{IsCaused, Runs}
 use Rattle.outcomes.specs.Refusing.{FindsBytes, FindsNone, opening}
 use Rattle.outcomes.specs.Seeing.{AreKnown, Contents, Counts, Rises}

@@ -1,5 +1,5 @@
 -- What `show` prints of a team's file, and when a merge has replaced it.
-use Rattle.std.proofs.Common.{◌≡◌, ◌<◌, ◌⊎◌, ◌∙◌, inl, inr, ℕ, List, [], ◌∷◌, ◌++◌, Contains, Option, Some, None, refl, sym, ap, append-nil, subst, arith}
+use Rattle.std.proofs.Common.{◌≡◌, ◌<◌, ◌⊎◌, ◌∙◌, inl, inr, ℕ, List, [], ◌∷◌, ◌++◌, Contains, Option, Some, refl, sym, ap, append-nil, subst, arith}
 use Rattle.std.specs.FinMap as fin
 use Rattle.std.proofs.lemmas.List.Elements.{All-contains, All-from_recursion}
 use Rattle.team_sets.specs.Names.{Name}
@@ -11,16 +11,13 @@ use Rattle.link_graph.specs.Held.{Held}
 use Rattle.link_intake.specs.Merged.{IsHeldIn}
 use Rattle.outcomes.specs.Refusing.{FindsBytes, opening}
 use Rattle.outcomes.specs.Seeing.{AreKnown}
-use Rattle.outcomes.specs.Steps.{World, Outcome, after, saying, writes}
+use Rattle.outcomes.specs.Steps.{World, Outcome, after, saying}
 use Rattle.outcomes.proofs.Joining.{after-writes}
 use Rattle.team_words.specs.Words.{command_of}
 use Rattle.team_words.specs.declared.command.Command.{Command}
-use Rattle.team_words.specs.declared.command.Command.TheVariants.{Merge, Show}
-use Rattle.exchange_commands.specs.Merge.{merged, merging}
-use Rattle.report_commands.specs.Show.{shows}
-use Rattle.team_run.specs.ManyRuns.{IsReplaced, IsRun, MergeIsDone, OneRun, Replaces, RunsLeaveUnion, ShowAfterRuns, ShowPrintsTeam, told}
+use Rattle.exchange_commands.specs.Merge.{merging}
+use Rattle.team_run.specs.ManyRuns.{IsReplaced, MergeIsDone, OneRun, Replaces, RunsLeaveUnion, ShowAfterRuns, ShowPrintsTeam, told}
 use Rattle.team_run.specs.Running.{does_words}
-use Rattle.team_run.specs.Serving.{HoldsTeam}
 use Rattle.team_run.proofs.Cuts.{told_known}
 use Rattle.team_run.proofs.Openings.{IsSaid, some_same, team_opens, team_or, there_or}
 

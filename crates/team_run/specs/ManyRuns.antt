@@ -131,7 +131,11 @@ pub record IsBegun (public_of : List ℕ → List ℕ) (runs : List OneRun) (nam
   pub replaced : IsReplaced public_of made name
   pub follow : AreRuns public_of made.new.files more last
 
--- A file that is absent before any list of runs, and is a team's file after them, was begun by a run of `make`.
+-- no team stands in the file: it is absent, or holds something else
+abbrev pub HoldsNone : FileMap → List ℕ → Type 0
+HoldsNone files name = (held : Held) → ¬ (HoldsTeam files name held)
+
+-- A file in which no team stands before any list of runs, and one does after them, was begun by a run of `make`.
 abbrev pub TeamsAreBegun : Type 0
-TeamsAreBegun = (public_of : List ℕ → List ℕ) (files last : FileMap) (runs : List OneRun) (name : List ℕ) (new : Held) → AreRuns public_of files runs last → fin.get files name ≡ None
+TeamsAreBegun = (public_of : List ℕ → List ℕ) (files last : FileMap) (runs : List OneRun) (name : List ℕ) (new : Held) → AreRuns public_of files runs last → HoldsNone files name
     → HoldsTeam last name new → IsBegun public_of runs name last

@@ -31,7 +31,7 @@ pub fn make_begins_team()
     new_key_has_a_file();
 }
 
-/// A file that was absent and is a team's after any list of runs was begun by a run of `make`.
+/// A file in which no team stood, and one stands after any list of runs, was begun by a run of `make`.
 pub fn teams_are_begun()
     ensures { TeamsAreBegun }
 {}

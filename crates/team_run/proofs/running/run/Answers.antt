@@ -3,7 +3,6 @@ use Rattle.std.proofs.lemmas.List.Elements.{All-contains}
 use Rattle.std.proofs.lemmas.Option.{IfSome_then}
 use Rattle.outcomes.specs.Ending.{answer_of}
 use Rattle.outcomes.specs.Seeing.{contents_of, counts_of}
-use Rattle.team_words.specs.Words.{command_of}
 use Rattle.outcomes.specs.Steps.{World, Outcome, saying}
 use Rattle.outcomes.proofs.Printing.{body_says, faulted_none, runs_concluded}
 use Rattle.team_run.specs.Running.{statuses_of}
@@ -40,7 +39,13 @@ returns-in-Ok-None-clause-usage g c = λ none lt. ends_with_two _ _ (answer_of c
 pub returns-in-Ok-Some-clause-complete : goal.returns-in-Ok-Some-clause-complete
 returns-in-Ok-Some-clause-complete g c =
     let some = rw c.in-Ok-Some.field-0-is at c.in-Ok-Some.ensures in
-    rw (← some) (complete g.K.Sealer.public (Some c.in-Ok-Some.command) _ _ _ _ c.run_command.result c.run_command.ensures.runs c.run_command.ensures.cause)
+    let command = c.in-Ok-Some.command in
+    let new = c.run_command.new in
+    let old = contents_of g.F.Files.files g.E.Entropy.left g.C.Clock.moment g.I.Source.left g.O.Sink.taken c.args.files.now c.args.entropy.now c.args.clock.now c.args.input.now c.args.out.now in
+    let left = contents_of g.F.Files.files g.E.Entropy.left g.C.Clock.moment g.I.Source.left g.O.Sink.taken new.files new.entropy new.clock new.input new.out in
+    let before = counts_of g.F.Files.faults g.E.Entropy.faults g.I.Source.faults g.O.Sink.faults c.args.files.now c.args.entropy.now c.args.input.now c.args.out.now in
+    let now = counts_of g.F.Files.faults g.E.Entropy.faults g.I.Source.faults g.O.Sink.faults new.files new.entropy new.input new.out in
+    rw (← some) (complete g.K.Sealer.public (Some command) old left before now c.run_command.result c.run_command.ensures.runs c.run_command.ensures.cause)
 
 pub returns-in-Err-clause-complete : goal.returns-in-Err-clause-complete
 returns-in-Err-clause-complete g c = complete_short _ _ _ _
