@@ -1,3 +1,4 @@
+mod Alike
 mod Begun
 mod Cuts
 mod Firsts

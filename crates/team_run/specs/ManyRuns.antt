@@ -1,5 +1,5 @@
 -- Runs one after another: what becomes of a team's file, whatever the runs are and however they end.
-use Rattle.std.specs.Prelude.{◌≡◌, ◌<◌, ◌^◌, ◌⊎◌, ◌++◌, ℕ, List, [], ◌∷◌, Contains, Option, Some, None}
+use Rattle.std.specs.Prelude.{◌≡◌, ◌↔◌, ◌<◌, ◌^◌, ◌⊎◌, ◌++◌, ℕ, List, [], ◌∷◌, Contains, Option, Some, None}
 use Rattle.std.specs.List.{AllByRecursion}
 use Rattle.std.specs.FinMap as fin
 use Rattle.tg_text.specs.Spelling.{IsHash}
@@ -8,7 +8,7 @@ use Rattle.team_model.specs.ShowText.{show_text}
 use Rattle.team_model.specs.declared.terms.Link.{Link}
 use Rattle.link_text.specs.LinkText.{text}
 use Rattle.link_graph.specs.Held.{Held}
-use Rattle.link_intake.specs.UnionLaws.{Fits, IsTextOf, IsUnion, NoClash}
+use Rattle.link_intake.specs.UnionLaws.{Fits, IsAmong, IsTextOf, IsUnion, IsValidText, NoClash}
 use Rattle.outcomes.specs.Ending.{Runs}
 use Rattle.outcomes.specs.Seeing.{Contents, IsCut}
 use Rattle.outcomes.specs.Steps.{World, Step, Outcome, draw, take_byte, replace, write}
@@ -139,3 +139,12 @@ HoldsNone files name = (held : Held) → ¬ (HoldsTeam files name held)
 abbrev pub TeamsAreBegun : Type 0
 TeamsAreBegun = (public_of : List ℕ → List ℕ) (files last : FileMap) (runs : List OneRun) (name : List ℕ) (new : Held) → AreRuns public_of files runs last → HoldsNone files name
     → HoldsTeam last name new → IsBegun public_of runs name last
+
+-- Two files of one team hold the same bytes after any runs, where the same valid texts stood in them at first or were given to them: in
+-- whatever order, how often, in whatever bundles, and beside whatever else.
+abbrev pub RunsInAnyOrder : Type 0
+RunsInAnyOrder = (public_of : List ℕ → List ℕ) (files last begun ended : FileMap) (runs others : List OneRun) (name other : List ℕ) (old second : Held)
+    → AreRuns public_of files runs last → AreRuns public_of begun others ended → HoldsTeam files name old → HoldsTeam begun other second → second.team ≡ old.team
+    → NoClash old (IsGivenBy public_of runs name) → Fits old (IsGivenBy public_of runs name) → NoClash second (IsGivenBy public_of others other) → Fits second (IsGivenBy public_of others other)
+    → ((b : List ℕ) → IsValidText old.team b → IsAmong old (IsGivenBy public_of runs name) b ↔ IsAmong second (IsGivenBy public_of others other) b)
+    → fin.get last name ≡ fin.get ended other

@@ -1,8 +1,9 @@
 //! Laws on what runs do, by the clauses of `run`. The functions do nothing.
-ghost use Rattle.team_run.specs.ManyRuns.{MakeBeginsTeam, MergeIsDone, RunsLeaveUnion, ShowAfterRuns, ShowPrintsTeam, TeamsAreBegun};
+ghost use Rattle.team_run.specs.ManyRuns.{MakeBeginsTeam, MergeIsDone, RunsInAnyOrder, RunsLeaveUnion, ShowAfterRuns, ShowPrintsTeam, TeamsAreBegun};
 ghost use Rattle.team_run.specs.Serving.{ServedEndWell};
 
 use key_commands::made_is_held;
+use link_intake::merges_in_any_order;
 use link_text::link_is_spelled_once;
 use lms_keep::new_key_has_a_file;
 use team_files::{bundle_is_read_once, file_is_read_once};
@@ -21,6 +22,14 @@ pub fn runs_leave_union()
     link_is_spelled_once();
     file_is_read_once();
     bundle_is_read_once();
+}
+
+/// Two files of one team to which runs gave the same valid texts, those that stood in them at first included, hold the same bytes.
+pub fn runs_in_any_order()
+    ensures { RunsInAnyOrder }
+{
+    merges_in_any_order();
+    runs_leave_union();
 }
 
 /// A run of `make` whose replace of the team file is done leaves it as the file of the root alone.

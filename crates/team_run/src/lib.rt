@@ -11,8 +11,8 @@ mod running;
 pub use exchange_commands::run_merge;
 pub use key_commands::{run_make, run_newkey};
 pub use laws::{
-    make_begins_team, merge_is_done, runs_leave_union, served_end_well, show_after_runs,
-    show_prints_team, teams_are_begun,
+    make_begins_team, merge_is_done, runs_in_any_order, runs_leave_union, served_end_well,
+    show_after_runs, show_prints_team, teams_are_begun,
 };
 pub use report_commands::run_show;
 pub use running::{run, run_command};

@@ -6,7 +6,8 @@ ghost use Rattle.team_run.specs.Running.{does, does_words, statuses_of};
 ghost use Rattle.team_run.specs.Serving.{IsComplete};
 
 use crate::laws::{
-    make_begins_team, merge_is_done, served_end_well, show_after_runs, teams_are_begun,
+    make_begins_team, merge_is_done, runs_in_any_order, served_end_well, show_after_runs,
+    teams_are_begun,
 };
 use exchange_commands::run_merge;
 use key_commands::{run_make, run_newkey};
@@ -56,6 +57,7 @@ pub fn run<F: Files, E: Entropy, C: Clock, I: Source, O: Sink, K: Sealer, L: Ste
     teams_are_begun();
     merge_is_done();
     show_after_runs();
+    runs_in_any_order();
     match command_of(alloc, words) {
         Ok(Some(command)) => {
             run_command(
