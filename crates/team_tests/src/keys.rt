@@ -60,6 +60,7 @@ fn boxes(alloc: Global, user: UserName) -> Result<Vec<BoxLine>, Fail> {
     Ok(boxes)
 }
 
+// Ann, listed with both devices, and the boxes as above.
 fn two_devices(alloc: Global, user: UserName) -> Result<TeamState, Fail> {
     let mut state = TeamState::new(alloc)?;
     state.put_title(Title::read(b"Reef crew").ok_or("no title")?)?;
@@ -75,37 +76,77 @@ fn two_devices(alloc: Global, user: UserName) -> Result<TeamState, Fail> {
     Ok(state)
 }
 
+// Ann's third device is listed, and no box is for it.
+fn third_listed(alloc: Global, user: UserName) -> Result<TeamState, Fail> {
+    let mut state = two_devices(alloc, user)?;
+    state.put_device(device(user, 3, true))?;
+    Ok(state)
+}
+
+// Ann's first device isn't listed any more, nor is a third one.
+fn first_unlisted(alloc: Global, user: UserName) -> Result<TeamState, Fail> {
+    let mut state = two_devices(alloc, user)?;
+    state.put_device(device(user, 1, false))?;
+    state.put_device(device(user, 3, false))?;
+    Ok(state)
+}
+
+fn owes(alloc: Global, state: &TeamState, owed: &[Debt]) -> Result<bool, Fail> {
+    Ok(debts(alloc, state)?.as_slice() == owed)
+}
+
+fn lacks_boxes(alloc: Global, state: &TeamState, pairs: &[(KeyId, KeyId)]) -> Result<bool, Fail> {
+    Ok(lacks(alloc, state)?.as_slice() == pairs)
+}
+
+fn taints(alloc: Global, state: &TeamState, keys: &[KeyId]) -> Result<bool, Fail> {
+    Ok(tainted(alloc, state)?.as_slice() == keys)
+}
+
+fn ann() -> Result<UserName, Fail> {
+    Ok(UserName::read(b"ann").ok_or("no user")?)
+}
+
 #[test]
-fn a_key_reaches_along_boxes(rt: HostRuntime) -> Result<(), Fail> {
+fn a_device_reaches_along_boxes(rt: HostRuntime) -> Result<(), Fail> {
     let alloc = rt.alloc();
-    let user = UserName::read(b"ann").ok_or("no user")?;
+    let user = ann()?;
     let boxes = boxes(alloc, user)?;
     let reached = reach(alloc, boxes.as_slice(), &[device_key(1)])?;
     let all = [team_key(), user_key(user), device_key(1)];
-    assert_eq!(rt; reached.as_slice(), all.as_slice());
-    let of_team = reach(alloc, boxes.as_slice(), &[team_key(), team_key()])?;
-    assert_eq!(rt; of_team.as_slice(), [team_key()].as_slice());
+    assert!(rt; reached.as_slice() == all.as_slice());
+    Ok(())
+}
+
+#[test]
+fn the_key_of_the_team_reaches_itself_alone(rt: HostRuntime) -> Result<(), Fail> {
+    let alloc = rt.alloc();
+    let boxes = boxes(alloc, ann()?)?;
+    let reached = reach(alloc, boxes.as_slice(), &[team_key(), team_key()])?;
+    assert!(rt; reached.as_slice() == [team_key()].as_slice());
+    Ok(())
+}
+
+#[test]
+fn nothing_is_owed_where_all_is_reached(rt: HostRuntime) -> Result<(), Fail> {
+    let alloc = rt.alloc();
+    let state = two_devices(alloc, ann()?)?;
+    assert!(rt; owes(alloc, &state, &[])?);
+    assert!(rt; lacks_boxes(alloc, &state, &[])?);
+    assert!(rt; taints(alloc, &state, &[])?);
+    assert!(rt; entitled(&state, &DeviceId([1; 32]), &Scope::Team));
     Ok(())
 }
 
 #[test]
 fn a_further_device_reaches_nothing(rt: HostRuntime) -> Result<(), Fail> {
     let alloc = rt.alloc();
-    let user = UserName::read(b"ann").ok_or("no user")?;
-    let (key, third) = (user_key(user), DeviceId([3; 32]));
-    let mut state = two_devices(alloc, user)?;
-    assert!(rt; debts(alloc, &state)?.is_empty());
-    assert!(rt; lacks(alloc, &state)?.is_empty());
-    assert!(rt; tainted(alloc, &state)?.is_empty());
-    assert!(rt; entitled(&state, &DeviceId([1; 32]), &Scope::Team));
-    state.put_device(device(user, 3, true))?;
-    let owed = [
-        Debt::Unreached(team_key(), third),
-        Debt::Unreached(key, third),
-    ];
-    assert_eq!(rt; debts(alloc, &state)?.as_slice(), owed.as_slice());
-    let lacking = [(device_key(3), key)];
-    assert_eq!(rt; lacks(alloc, &state)?.as_slice(), lacking.as_slice());
+    let (user, third) = (ann()?, DeviceId([3; 32]));
+    let state = third_listed(alloc, user)?;
+    let of_team = Debt::Unreached(team_key(), third);
+    let of_user = Debt::Unreached(user_key(user), third);
+    assert!(rt; owes(alloc, &state, &[of_team, of_user])?);
+    assert!(rt; lacks_boxes(alloc, &state, &[(device_key(3), user_key(user))])?);
     assert!(rt; entitled(&state, &third, &Scope::Team));
     Ok(())
 }
@@ -113,16 +154,22 @@ fn a_further_device_reaches_nothing(rt: HostRuntime) -> Result<(), Fail> {
 #[test]
 fn what_an_unlisted_device_had_is_tainted(rt: HostRuntime) -> Result<(), Fail> {
     let alloc = rt.alloc();
-    let user = UserName::read(b"ann").ok_or("no user")?;
-    let mut state = two_devices(alloc, user)?;
-    state.put_device(device(user, 1, false))?;
-    state.put_device(device(user, 3, false))?;
+    let user = ann()?;
+    let state = first_unlisted(alloc, user)?;
     let keys = [team_key(), user_key(user), device_key(1), device_key(3)];
-    assert_eq!(rt; tainted(alloc, &state)?.as_slice(), keys.as_slice());
-    let owed = [Debt::Tainted(team_key()), Debt::Tainted(user_key(user))];
-    assert_eq!(rt; debts(alloc, &state)?.as_slice(), owed.as_slice());
-    assert!(rt; lacks(alloc, &state)?.is_empty());
+    assert!(rt; taints(alloc, &state, &keys)?);
     assert!(rt; !entitled(&state, &DeviceId([1; 32]), &Scope::Team));
     assert!(rt; entitled(&state, &DeviceId([2; 32]), &Scope::Team));
+    Ok(())
+}
+
+#[test]
+fn what_is_tainted_is_owed_anew(rt: HostRuntime) -> Result<(), Fail> {
+    let alloc = rt.alloc();
+    let user = ann()?;
+    let state = first_unlisted(alloc, user)?;
+    let (of_team, of_user) = (Debt::Tainted(team_key()), Debt::Tainted(user_key(user)));
+    assert!(rt; owes(alloc, &state, &[of_team, of_user])?);
+    assert!(rt; lacks_boxes(alloc, &state, &[])?);
     Ok(())
 }

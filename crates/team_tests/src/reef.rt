@@ -54,52 +54,72 @@ fn body(
     Ok(body_of(alloc, &draft)?)
 }
 
+// The text of a link by ann that leaf n signs.
+fn text(
+    alloc: Global,
+    key: &Tree,
+    n: u32,
+    team: Option<LinkName>,
+    parents: &[LinkName],
+    act: &[u8],
+) -> Result<Bytes, Fail> {
+    let body = body(alloc, key, n, team, parents, act)?;
+    Ok(sign(alloc, key, n, body.as_slice())?)
+}
+
 // A key of types 6 and 3 signs with its leaves 0 to 3. By name the links stand in the order low, join, root, high.
+fn shipped_texts(alloc: Global, key: &Tree) -> Result<[Bytes; 4], Fail> {
+    let root = text(alloc, key, 0, None, &[], FOUND)?;
+    let team = name_of(root.as_slice());
+    let low = text(alloc, key, 1, Some(team), &[team], b"title Low tide")?;
+    let high = text(alloc, key, 2, Some(team), &[team], b"title High tide")?;
+    let parents = [name_of(low.as_slice()), name_of(high.as_slice())];
+    let join = text(alloc, key, 3, Some(team), &parents, b"join")?;
+    Ok([low, join, root, high])
+}
+
+fn file_of(alloc: Global, texts: &[Bytes], team: &LinkName) -> Result<Bytes, Fail> {
+    let mut file = Bytes::new(alloc);
+    write_header(&mut file, team)?;
+    for text in texts {
+        write_frame(&mut file, text.as_slice())?;
+    }
+    Ok(file)
+}
+
 #[test]
 fn the_shipped_file_is_what_its_seed_gives(rt: HostRuntime) -> Result<(), Fail> {
     let alloc = rt.alloc();
-    let key = tall_key(alloc)?;
-    let first = body(alloc, &key, 0, None, &[], FOUND)?;
-    let root = sign(alloc, &key, 0, first.as_slice())?;
-    let team = name_of(root.as_slice());
-    let mut texts = Vec::new(alloc);
-    let mut parents = Vec::new(alloc);
-    for (leaf, act) in [
-        (1, b"title Low tide".as_slice()),
-        (2, b"title High tide".as_slice()),
-    ] {
-        let body = body(alloc, &key, leaf, Some(team), &[team], act)?;
-        let text = sign(alloc, &key, leaf, body.as_slice())?;
-        parents.push(name_of(text.as_slice()))?;
-        texts.push(text)?;
-    }
-    let body = body(alloc, &key, 3, Some(team), parents.as_slice(), b"join")?;
-    let join = sign(alloc, &key, 3, body.as_slice())?;
-    let mut file = Bytes::new(alloc);
-    write_header(&mut file, &team)?;
-    if let [low, high] = texts.as_slice() {
-        for text in [low, &join, &root, high] {
-            write_frame(&mut file, text.as_slice())?;
-        }
-    }
-    assert_eq!(rt; Some(Sha256::digest(file.as_slice())), read_hex32(FILE));
+    let texts = shipped_texts(alloc, &tall_key(alloc)?)?;
+    let team = name_of(texts[2].as_slice());
+    let file = file_of(alloc, &texts, &team)?;
+    assert!(rt; Some(Sha256::digest(file.as_slice())) == read_hex32(FILE));
+    Ok(())
+}
+
+#[test]
+fn the_device_of_the_worked_link(rt: HostRuntime) -> Result<(), Fail> {
+    let key = tall_key(rt.alloc())?;
+    assert!(rt; Some(device_of(&key.public()).0) == read_hex32(DEVICE));
+    Ok(())
+}
+
+#[test]
+fn the_body_of_the_worked_link(rt: HostRuntime) -> Result<(), Fail> {
+    let alloc = rt.alloc();
+    let body = body(alloc, &tall_key(alloc)?, 0, None, &[], FOUND)?;
+    assert!(rt; body.len() == 207);
+    assert!(rt; Some(Sha256::digest(body.as_slice())) == read_hex32(BODY));
     Ok(())
 }
 
 #[test]
 fn the_worked_link(rt: HostRuntime) -> Result<(), Fail> {
     let alloc = rt.alloc();
-    let key = tall_key(alloc)?;
-    assert_eq!(rt; Some(device_of(&key.public()).0), read_hex32(DEVICE));
-    let body = body(alloc, &key, 0, None, &[], FOUND)?;
-    assert_eq!(rt; body.len(), 207);
-    assert_eq!(rt; Some(Sha256::digest(body.as_slice())), read_hex32(BODY));
-    let text = sign(alloc, &key, 0, body.as_slice())?;
-    assert_eq!(rt; text.len(), 3557);
+    let text = text(alloc, &tall_key(alloc)?, 0, None, &[], FOUND)?;
+    assert!(rt; text.len() == 3557);
     let link = read_link(alloc, text.as_slice()).ok().ok_or("no link")?;
-    assert_eq!(rt; link.signature.len(), 2508);
-    assert_eq!(rt; Some(link.name.0), read_hex32(NAME));
-    assert!(rt; is_of_team(&link, &link.name));
-    assert!(rt; !is_of_team(&link, &LinkName([7; 32])));
+    assert!(rt; link.signature.len() == 2508 && Some(link.name.0) == read_hex32(NAME));
+    assert!(rt; is_of_team(&link, &link.name) && !is_of_team(&link, &LinkName([7; 32])));
     Ok(())
 }
