@@ -19,13 +19,14 @@
 //!     holds NAME PIECE ..   the file has these bytes
 //!
 //! A run is followed by what it prints, its status, and what is said of files. A file that a run may change is asked for: none is
-//! looked at by itself. Of each session the program prints how many runs agree, and before that each run that differs.
+//! looked at by itself. A line of any other form stops the program. Of each session the program prints how many runs agree, and before that each run that differs.
 //!
 //! The links of the data are of a team whose links ann's key signs: types 5 and 3, the id of sixteen bytes 0x11, the seed of 32
 //! bytes 0x22. `team_cases` signs them again. What is printed, and the names in it, were computed by another program.
 #![tactic(auto)]
 
 mod expected;
+mod line;
 mod outset;
 mod playing;
 mod run;

@@ -1,4 +1,5 @@
 //! What a world begins with.
+use crate::line::{Line, read_line};
 use std::alloc::Global;
 use team_samples::{SampleFault, read_pieces};
 use tg_outside::Files;
@@ -16,7 +17,7 @@ pub struct Outset {
     pub failing_output: Vec<u64>,
 }
 
-/// Reads what the lines say of all runs, in whatever place they stand.
+/// Reads what the lines say of all runs, in whatever place they stand. A line of no known form is a `BadWord`.
 pub fn read_outset<F: Files>(
     alloc: Global,
     data: &mut F,
@@ -27,34 +28,33 @@ pub fn read_outset<F: Files>(
         draws: Vec::new(alloc),
         input: Bytes::new(alloc),
         most: usize::MAX,
-        failing_output: failing(alloc, lines, "fail output ")?,
+        failing_output: failing(alloc, lines, "output")?,
     };
     for line in lines.lines() {
-        if let Some(number) = line.strip_prefix("moment ") {
-            outset.moment = number_of(number)?;
-        }
-        if let Some(word) = line.strip_prefix("draw ") {
-            let word = read_hex32(word.as_bytes()).ok_or(SampleFault::BadWord)?;
-            outset.draws.push(word)?;
-        }
-        if let Some(pieces) = line.strip_prefix("input ") {
-            outset.input = read_pieces(alloc, data, pieces)?;
-        }
-        if let Some(number) = line.strip_prefix("most ") {
-            outset.most = number_of(number)? as usize;
+        match read_line(line)? {
+            Line::Moment(number) => outset.moment = number_of(number)?,
+            Line::Draw(word) => outset
+                .draws
+                .push(read_hex32(word.as_bytes()).ok_or(SampleFault::BadWord)?)?,
+            Line::Input(pieces) => outset.input = read_pieces(alloc, data, pieces)?,
+            Line::Most(number) => outset.most = number_of(number)? as usize,
+            _ => {}
         }
     }
     Ok(outset)
 }
 
-/// The numbers of the calls that fail, by the lines with this front.
-pub fn failing(alloc: Global, lines: &str, front: &str) -> Result<Vec<u64>, SampleFault> {
+/// The numbers of the calls of a kind that fail.
+pub fn failing(alloc: Global, lines: &str, kind: &str) -> Result<Vec<u64>, SampleFault> {
     let mut numbers = Vec::new(alloc);
     for line in lines.lines() {
-        if let Some(words) = line.strip_prefix(front) {
-            for word in words.split(' ') {
-                numbers.push(number_of(word)?)?;
+        match read_line(line)? {
+            Line::Fail(of, words) if of == kind => {
+                for word in words.split(' ') {
+                    numbers.push(number_of(word)?)?;
+                }
             }
+            _ => {}
         }
     }
     Ok(numbers)

@@ -1,5 +1,6 @@
 //! Playing the worlds of a session, run by run.
 use crate::expected::{is_right, text_of};
+use crate::line::{Line, read_line};
 use crate::outset::{Outset, failing, number_of, read_outset};
 use crate::run::{Outside, run_line};
 use std::alloc::Global;
@@ -37,21 +38,16 @@ fn play_world<F: Files>(
     played: &mut Played,
     world: &str,
 ) -> Result<(), SampleFault> {
-    let outset = read_outset(alloc, data, world)?;
+    let title = world.lines().next().unwrap_or("");
+    let lines = world.strip_prefix(title).unwrap_or("");
+    let outset = read_outset(alloc, data, lines)?;
     let mut outside = Outside {
-        files: MemoryFiles::new(alloc, failing(alloc, world, "fail files ")?),
-        entropy: ListEntropy::new(
-            outset.draws.as_slice(),
-            failing(alloc, world, "fail draws ")?,
-        ),
+        files: MemoryFiles::new(alloc, failing(alloc, lines, "files")?),
+        entropy: ListEntropy::new(outset.draws.as_slice(), failing(alloc, lines, "draws")?),
         clock: FixedClock::new(outset.moment),
-        input: MemorySource::new(
-            outset.input.as_slice(),
-            failing(alloc, world, "fail input ")?,
-        ),
+        input: MemorySource::new(outset.input.as_slice(), failing(alloc, lines, "input")?),
     };
-    let (title, _) = world.split_once('\n').unwrap_or((world, ""));
-    let mut parts = world.split("\n$");
+    let mut parts = lines.split("\n$");
     if let Some(front) = parts.next() {
         give_files(alloc, data, &mut outside.files, front)?;
     }
@@ -73,8 +69,7 @@ fn give_files<F: Files>(
     lines: &str,
 ) -> Result<(), SampleFault> {
     for line in lines.lines() {
-        if let Some(fact) = line.strip_prefix("give ") {
-            let (name, pieces) = fact.split_once(' ').unwrap_or((fact, ""));
+        if let Line::Give(name, pieces) = read_line(line)? {
             let bytes = read_pieces(alloc, data, pieces)?;
             files.put(alloc, name, bytes.as_slice())?;
         }
@@ -115,7 +110,7 @@ fn play_run<F: Files>(
 // The status that the lines say.
 fn status_of(lines: &str) -> Result<Option<u64>, SampleFault> {
     for line in lines.lines() {
-        if let Some(number) = line.strip_prefix("status ") {
+        if let Line::Status(number) = read_line(line)? {
             return Ok(Some(number_of(number)?));
         }
     }
