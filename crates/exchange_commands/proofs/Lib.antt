@@ -1,1 +1,1 @@
-mod Stops
+mod Statuses

@@ -7,9 +7,10 @@ use Rattle.link_intake.specs.ResultsText.{is_refused, results_status, results_te
 use Rattle.outcomes.specs.Refusing.{FindsBytes, opening}
 use Rattle.outcomes.proofs.Opened.{goes_on, refusal_among, refused}
 use Rattle.outcomes.proofs.Printing.{body_cut, body_fails, body_replaced, fault_answers_nothing}
+use Rattle.outcomes.proofs.Stops.{replace_failed}
 use Rattle.openers.specs.Team.{FindsTeam}
 use Rattle.exchange_commands.specs.Merge.{merging}
-use Rattle.exchange_commands.proofs.Stops.{replace_failed, status_among}
+use Rattle.exchange_commands.proofs.Statuses.{status_among}
 use Rattle.exchange_commands.proofs.merge.answer_merge.Goals as goal
 
 pub returns-in_err-given-clause-body : goal.returns-in_err-given-clause-body
