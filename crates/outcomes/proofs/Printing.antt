@@ -10,7 +10,7 @@ use Rattle.outcomes.specs.declared.put.Put.{Put}
 use Rattle.outcomes.specs.declared.stop.Stop.{Stop}
 use Rattle.outcomes.specs.declared.stop.Stop.TheVariants.{Refused, Failed, Memory}
 use Rattle.outcomes.specs.Steps.{World, Step, Outcome, after, draws, puts, writes, saying, acting, put, replace}
-use Rattle.outcomes.specs.Seeing.{Contents, WithFiles, WithFilesAndDraws, AreKnown, IsCut, Counts, IsLater, Rises}
+use Rattle.outcomes.specs.Seeing.{Contents, WithFiles, WithFilesAndDraws, AreKnown, IsCut, Counts}
 use Rattle.outcomes.specs.Ending.{Runs, IsBodyOf, IsCutOf, IsDoneWith, IsPrepared, IsConcluded, answer_of, stop_of, IsFaulted}
 use Rattle.outcomes.proofs.Joining.{after-append, cut-all, cut-first, cut-none, cut-then, written, written-cut}
 
@@ -107,33 +107,6 @@ pub runs_files_draws : (does : World → Outcome → Type 0) (old : Contents) (m
     → Runs does old (record old { files = mid; draws = left; taken = u }) status
 runs_files_draws does old mid left u r status body printed = runs_concluded does old (record old { files = mid; draws = left }) old.taken u r status printed (body old)
 
--- The body of an outcome that replaces files and prints, where the call that replaces did so, and what it cut short is known.
-pub body_acts : (does : World → Outcome → Type 0) (old new : Contents) (r : Result Answer Stop) (status n : ℕ) (all : List Put) (text : List ℕ)
-    → ((w : World) → AreKnown old w → does w (acting status n all text))
-    → IfSome (answer_of r) (λ a. (a.status ≡ status) × (a.text ≡ text))
-    → ((w : World) → AreKnown old w → IfSome (answer_of r) (λ _. AreKnown new (after (puts all) (after (draws n) w))))
-    → ((w : World) → AreKnown old w → IsCut new (draws n ++ puts all) w)
-    → IsBodyOf does old new r
-body_acts does old new r status n all text is_done said done cut = record {
-  prepared = answered r said done;
-  cut = λ w is. inr (
-    acting status n all text,
-    is_done w is,
-    rw (← append_assoc (draws n) (puts all) (writes text)) (cut-first (draws n ++ puts all) (writes text) w new (cut w is)),
-  );
-}
-  where
-    one : (a : Answer) → a.status ≡ status → a.text ≡ text → (w : World) → AreKnown old w → AreKnown new (after (puts all) (after (draws n) w)) → IsPrepared does new w a
-    one a s t w is k = (draws n ++ puts all, rw (s, t, append_assoc) (is_done w is), rw after-append k)
-
-    answered : (r : Result Answer Stop) → IfSome (answer_of r) (λ a. (a.status ≡ status) × (a.text ≡ text))
-        → ((w : World) → AreKnown old w → IfSome (answer_of r) (λ _. AreKnown new (after (puts all) (after (draws n) w))))
-        → IfSome (answer_of r) (λ a. (w : World) → AreKnown old w → IsPrepared does new w a)
-    answered (Ok a) h k = λ w is. one a h.0 h.1 w is (k w is)
-    answered (Err (Refused a)) h k = λ w is. one a h.0 h.1 w is (k w is)
-    answered (Err Failed) h k = tt
-    answered (Err Memory) h k = tt
-
 -- one file is replaced, and the text is to be printed
 pub body_replaced : (does : World → Outcome → Type 0) (old new : Option FileMap) (a : Answer) (name bytes : List ℕ)
     → ((w : World) → old ≡ Some w.files → does w (acting a.status 0 (put name bytes ∷ []) a.text))
@@ -222,57 +195,12 @@ pub fault_answers_nothing : (r : Result Answer Stop) (f : Fault) (Y : Answer →
 fault_answers_nothing (Ok a) f Y e = absurd e
 fault_answers_nothing (Err s) f Y e = subst (λ (s : Stop). IfSome (answer_of (Err s)) Y) (sym e) (no_answer f Y)
 
-rose_later : (a b c : ℕ) → a ≤ b → Rose b c → Rose a c
-rose_later a b c le rose = omega (arith, le, rose)
-
-pub rises_later : (a b c : Counts) → IsLater a b → Rises b c → Rises a c
-rises_later a b c later (inl rose) = inl (rose_later a.files b.files c.files later.files rose)
-rises_later a b c later (inr (inl rose)) = inr (inl (rose_later a.draws b.draws c.draws later.draws rose))
-rises_later a b c later (inr (inr (inl rose))) = inr (inr (inl (rose_later a.input b.input c.input later.input rose)))
-rises_later a b c later (inr (inr (inr rose))) = inr (inr (inr (rose_later a.taken b.taken c.taken later.taken rose)))
-
 -- the files alone may have failed
 pub faulted_files : {T : Type 0} (before now : ℕ) (counts : Counts) (r : Result T Stop) → before ≤ now → (r ≡ Err Failed → Rose before now)
     → IsFaulted (record counts { files = before }) (record counts { files = now }) r
 faulted_files before now counts r le h = record {
   later = record { files = le; draws = omega arith; input = omega arith; taken = omega arith };
   failed = λ e. inl (h e);
-}
-
--- the entropy alone may have failed
-pub faulted_draws : {T : Type 0} (before now : ℕ) (counts : Counts) (r : Result T Stop) → before ≤ now → (r ≡ Err Failed → Rose before now)
-    → IsFaulted (record counts { draws = before }) (record counts { draws = now }) r
-faulted_draws before now counts r le h = record {
-  later = record { files = omega arith; draws = le; input = omega arith; taken = omega arith };
-  failed = λ e. inr (inl (h e));
-}
-
--- files or entropy may have failed
-pub faulted_either : {T : Type 0} (before now words more : ℕ) (counts : Counts) (r : Result T Stop) → before ≤ now → words ≤ more
-    → (r ≡ Err Failed → Rose before now ⊎ Rose words more)
-    → IsFaulted (record counts { files = before; draws = words }) (record counts { files = now; draws = more }) r
-faulted_either before now words more counts r le lt h = record {
-  later = record { files = le; draws = lt; input = omega arith; taken = omega arith };
-  failed = λ e. either (h e);
-} where
-  either : Rose before now ⊎ Rose words more → Rises (record counts { files = before; draws = words }) (record counts { files = now; draws = more })
-  either (inl rose) = inl rose
-  either (inr rose) = inr (inl rose)
-
--- what failed before the command would answer
-pub faulted_before : {T U : Type 0} (before now : Counts) (e : Stop) → IsFaulted {T = T} before now (Err e) → IsFaulted {T = U} before now (Err e)
-faulted_before before now e h = record { later = h.later; failed = λ same. h.failed (let fault : e ≡ Failed = cc in ap Err fault) }
-
--- more was called before
-pub faulted_then : {T : Type 0} (before mid now : Counts) (r : Result T Stop) → IsLater before mid → IsFaulted mid now r → IsFaulted before now r
-faulted_then before mid now r later h = record {
-  later = record {
-    files = omega (arith, later.files, h.later.files);
-    draws = omega (arith, later.draws, h.later.draws);
-    input = omega (arith, later.input, h.later.input);
-    taken = omega (arith, later.taken, h.later.taken);
-  };
-  failed = λ e. rises_later before mid now later (h.failed e);
 }
 
 -- nothing outside was called
