@@ -2,6 +2,7 @@
 #![tactic(auto)]
 
 use lockboxes::SymbolicKeeper;
+use outcomes::NO_MEMORY;
 use std::io::ErrorKind;
 use std::process::ExitCode;
 use std::{env, io};
@@ -15,12 +16,12 @@ fn words_given(rt: &HostRuntime) -> Result<Vec<String>, ExitCode> {
         Ok(args) => {
             for word in args.skip(1) {
                 if words.push(word).is_err() {
-                    return Err(ExitCode::from(6));
+                    return Err(ExitCode::from(NO_MEMORY));
                 }
             }
             Ok(words)
         }
-        Err(error) if error.kind() == ErrorKind::OutOfMemory => Err(ExitCode::from(6)),
+        Err(error) if error.kind() == ErrorKind::OutOfMemory => Err(ExitCode::from(NO_MEMORY)),
         Err(_) => Ok(words),
     }
 }
