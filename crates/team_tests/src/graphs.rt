@@ -57,21 +57,49 @@ fn are_same(alloc: Global, graph: &Graph, other: &Graph) -> Result<bool, Memory>
     Ok(counts && files && names && graph.heads() == other.heads())
 }
 
-// Forwards and in five other orders; and a graph that is read from the file, in the order of names.
+// The history's links, forwards, and its graph of them.
+fn forwards(alloc: Global) -> Result<(History, Graph), Fail> {
+    let history = make_history(alloc, 3, LINKS as u64)?;
+    let order = all_but(alloc, LINKS, LINKS)?;
+    let graph = graph_of(alloc, &history, order.as_slice()).ok_or("not taken")?;
+    Ok((history, graph))
+}
+
+// Whether the links in another order are the same graph.
+fn is_same_shuffled(
+    alloc: Global,
+    history: &History,
+    graph: &Graph,
+    state: u64,
+) -> Result<bool, Fail> {
+    let order = all_but(alloc, LINKS, LINKS)?;
+    let order = shuffled(alloc, &mut Draws { state }, order.as_slice())?;
+    let other = graph_of(alloc, history, order.as_slice()).ok_or("not taken")?;
+    Ok(are_same(alloc, graph, &other)?)
+}
+
+// Forwards and in five other orders.
 #[test]
 fn links_in_any_order_are_one_graph(rt: HostRuntime) -> Result<(), Fail> {
     let alloc = rt.alloc();
-    let history = make_history(alloc, 3, LINKS as u64)?;
-    let forwards = all_but(alloc, LINKS, LINKS)?;
-    let graph = graph_of(alloc, &history, forwards.as_slice()).ok_or("not taken")?;
-    assert_eq!(rt; graph.connected(), LINKS as u32);
+    let (history, graph) = forwards(alloc)?;
+    assert!(rt; graph.connected() == LINKS as u32);
     for state in 0..5 {
-        let order = shuffled(alloc, &mut Draws { state }, forwards.as_slice())?;
-        let other = graph_of(alloc, &history, order.as_slice()).ok_or("not taken")?;
-        assert!(rt; are_same(alloc, &graph, &other)?, "order {state}");
+        assert!(rt;
+            is_same_shuffled(alloc, &history, &graph, state)?,
+            "order {state}"
+        );
     }
+    Ok(())
+}
+
+// A graph that is read from the file, in the order of names.
+#[test]
+fn the_file_of_a_graph_is_that_graph(rt: HostRuntime) -> Result<(), Fail> {
+    let alloc = rt.alloc();
+    let graph = forwards(alloc)?.1;
     let file = file_text(alloc, &graph)?;
-    assert_eq!(rt; file.len() as u64, graph.file_bytes());
+    assert!(rt; file.len() as u64 == graph.file_bytes());
     let read = read_graph(alloc, file.as_slice()).ok().ok_or("no file")?;
     assert!(rt; are_same(alloc, &graph, &read)?);
     Ok(())
@@ -84,6 +112,27 @@ fn unsigned(alloc: Global, text: &Bytes) -> Result<Bytes, Memory> {
     finish(alloc, body, &[0, 1, 2])
 }
 
+// Whether a graph and a replica refuse a text, both with this fault.
+fn is_refused(
+    alloc: Global,
+    graph: &mut Graph,
+    replica: &mut Replica,
+    text: &[u8],
+    fault: TakeFault,
+) -> bool {
+    let took = graph.take(text);
+    let inserted = replica.insert(alloc, text, &mut Steps::new(Silent));
+    took == Err(fault) && inserted == Err(fault)
+}
+
+// Whether nothing is held.
+fn are_empty(graph: &Graph, replica: &Replica) -> bool {
+    graph.held() == 0
+        && graph.file_bytes() == 77
+        && replica.view().held == 0
+        && replica.view().state.is_empty()
+}
+
 // What is refused leaves a graph and a replica as they were.
 #[test]
 fn texts_are_refused(rt: HostRuntime) -> Result<(), Fail> {
@@ -92,22 +141,16 @@ fn texts_are_refused(rt: HostRuntime) -> Result<(), Fail> {
     let far_root = far.texts.first().ok_or("no root")?;
     let child = unsigned(alloc, history.texts.get(1).ok_or("no link")?)?;
     let long = vec![in alloc; b'a'; 1_048_577]?;
-    let rows = [
+    let mut graph = Graph::new(alloc, history.team);
+    let mut replica = Replica::new(alloc, history.team)?;
+    for (text, fault) in [
         (far_root.as_slice(), TakeFault::OtherTeam),
         (child.as_slice(), TakeFault::BadSignature),
         (b"team-link 2\n".as_slice(), TakeFault::BadText),
         (long.as_slice(), TakeFault::TooLong),
-    ];
-    let mut graph = Graph::new(alloc, history.team);
-    let mut replica = Replica::new(alloc, history.team)?;
-    for (text, fault) in rows {
-        assert_eq!(rt; graph.take(text), Err(fault));
-        let took = replica.insert(alloc, text, &mut Steps::new(Silent));
-        assert_eq!(rt; took, Err(fault));
+    ] {
+        assert!(rt; is_refused(alloc, &mut graph, &mut replica, text, fault));
     }
-    assert_eq!(rt; graph.held(), 0);
-    assert_eq!(rt; graph.file_bytes(), 77);
-    assert_eq!(rt; replica.view().held, 0);
-    assert!(rt; replica.view().state.is_empty());
+    assert!(rt; are_empty(&graph, &replica));
     Ok(())
 }
