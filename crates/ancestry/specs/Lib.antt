@@ -1,0 +1,4 @@
+pub mod Examples
+pub mod Positions
+pub mod Renaming
+pub mod Rows
