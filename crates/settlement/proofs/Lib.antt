@@ -1,0 +1,4 @@
+mod Pairs
+mod Places
+mod Ranks
+pub mod Seniors

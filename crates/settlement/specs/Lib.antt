@@ -1,0 +1,5 @@
+pub mod Examples
+pub mod Pairs
+pub mod RankLaws
+pub mod Ranks
+pub mod SeniorLaws
