@@ -1,14 +1,14 @@
 -- Worked examples. Names of one byte are enough: nothing here knows that a name has 32.
-use Rattle.std.specs.Prelude.{◌≡◌, ℕ, List, [], ◌∷◌, map, codes, Some, None}
+use Rattle.std.specs.Prelude.{◌≡◌, ℕ, List, [], ◌∷◌, ◌++◌, map, codes, Some, None}
 use Rattle.team_sets.specs.Names.{Name}
 use Rattle.acts.specs.declared.entry.Act.{Act}
-use Rattle.acts.specs.declared.entry.Act.TheVariants.{Found, Title, Join}
+use Rattle.acts.specs.declared.entry.Act.TheVariants.{Found, AddMember, RemoveMember, GiveRole, Title, Join}
 use Rattle.team_model.specs.declared.terms.Link.{Link}
-use Rattle.team_model.specs.declared.terms.Verdict.TheVariants.{Counts, Unlawful, Waiting}
+use Rattle.team_model.specs.declared.terms.Verdict.TheVariants.{Counts, Outranked, Struck, Unlawful, Waiting}
 use Rattle.team_model.specs.declared.terms.Reason.TheVariants.{NotListed}
 use Rattle.team_model.specs.Arrival.{arrived}
 use Rattle.team_model.specs.ShowText.{show_text}
-use Rattle.team_model.specs.Judging.{verdict, team, team_rules}
+use Rattle.team_model.specs.Judging.{Rules, rules_by, verdict, team, team_rules}
 
 abbrev link : ℕ → List ℕ → ℕ → Act → Link
 link n ps u a = record {
@@ -55,3 +55,46 @@ abbrev pub WaitingRow : Type 0
 WaitingRow = (show_text (7 ∷ []) early ≡ codes "team 07\nlinks 2 waiting 2 counting 0\nend\n")
     × (show_text (7 ∷ []) (by (codes "ann") 7 [] (Found [] (codes "Reef crew")) ∷ early)
     ≡ codes "team 07\ntitle High tide\nlinks 3 waiting 0 counting 3\nmember ann admin\ndevice ann 01\nrole admin\ndebt none team\ndebt none role:admin\ndebt none user:ann\nend\n")
+
+-- by rules under which the id of a device is its key
+abbrev own_rules : Rules
+own_rules = rules_by (λ key. key)
+
+-- a member by a number, with a device of the same name, and as an admin
+abbrev add : ℕ → Act
+add u = AddMember (u ∷ []) (u ∷ []) []
+
+abbrev raise : ℕ → Act
+raise u = GiveRole (u ∷ []) (codes "admin")
+
+abbrev remove : ℕ → Act
+remove u = RemoveMember (u ∷ [])
+
+-- a root by 1, who adds 2 and makes it admin; then each removes the other
+abbrev pub two : List Link
+two = link 30 [] 1 (Found [] (codes "t")) ∷ link 31 (30 ∷ []) 1 (add 2) ∷ link 32 (31 ∷ []) 1 (raise 2) ∷ link 9 (32 ∷ []) 1 (remove 2) ∷ link 8 (32 ∷ []) 2 (remove 1) ∷ []
+
+abbrev pub TwoRow : Type 0
+TwoRow = map (verdict own_rules two) two ≡ Counts ∷ Counts ∷ Counts ∷ Counts ∷ Struck (9 ∷ []) ∷ []
+
+-- 1 founds, and adds 2 and then 3 as admins
+abbrev admins : List Link
+admins = link 30 [] 1 (Found [] (codes "t")) ∷ link 31 (30 ∷ []) 1 (add 2) ∷ link 32 (31 ∷ []) 1 (raise 2) ∷ link 33 (32 ∷ []) 1 (add 3) ∷ link 34 (33 ∷ []) 1 (raise 3) ∷ []
+
+-- 1 removes 2, 2 removes 3, 3 removes 1
+abbrev pub ring : List Link
+ring = admins ++ link 9 (34 ∷ []) 1 (remove 2) ∷ link 8 (34 ∷ []) 2 (remove 3) ∷ link 7 (34 ∷ []) 3 (remove 1) ∷ []
+
+abbrev pub RingRow : Type 0
+RingRow = map (verdict own_rules ring) ring ≡ Counts ∷ Counts ∷ Counts ∷ Counts ∷ Counts ∷ Counts ∷ Struck (9 ∷ []) ∷ Outranked (9 ∷ []) ∷ []
+
+-- 2 removes 3, whose title beside it is struck; then a removal of 2 by 1 beside both comes
+abbrev pub voided : List Link
+voided = admins ++ link 8 (34 ∷ []) 2 (remove 3) ∷ link 7 (34 ∷ []) 3 (Title (codes "ours")) ∷ []
+
+abbrev pub late : List Link
+late = voided ++ link 9 (34 ∷ []) 1 (remove 2) ∷ []
+
+abbrev pub LateRow : Type 0
+LateRow = (map (verdict own_rules voided) voided ≡ Counts ∷ Counts ∷ Counts ∷ Counts ∷ Counts ∷ Counts ∷ Struck (8 ∷ []) ∷ [])
+    × (map (verdict own_rules late) late ≡ Counts ∷ Counts ∷ Counts ∷ Counts ∷ Counts ∷ Struck (9 ∷ []) ∷ Counts ∷ Counts ∷ [])

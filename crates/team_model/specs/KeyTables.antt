@@ -1,5 +1,5 @@
 -- What the tables of a state say of keys: the live scopes, the arrows between them, and the current keys.
-use Rattle.std.specs.Prelude.{Bool, false, not, ◌&&◌, if◌then◌else◌, List, [], ◌∷◌, ◌++◌, map, filter}
+use Rattle.std.specs.Prelude.{Bool, false, not, ◌&&◌, if◌then◌else◌, List, [], ◌∷◌, ◌++◌, map, filter, find, Option}
 use Rattle.std.specs.Ordering.{is_lt}
 use Rattle.team_sets.specs.Names.{has_name, put_in, same_name}
 use Rattle.tg_text.specs.Order.{scope_cmp}
@@ -17,6 +17,10 @@ key_of_device d = record { scope = DeviceScope d.id; generation = 0; public = d.
 -- the current key of each scope that ever had one, and the key of each device that was ever listed
 abbrev pub all_keys : State → List KeyId
 all_keys s = s.currents ++ map key_of_device s.devices
+
+-- the current key of a scope that ever had one, or of a device that was ever listed
+abbrev pub current_key : State → Scope → Option KeyId
+current_key s c = find (λ k. same_scope k.scope c) (all_keys s)
 
 abbrev pub scope_of_device : Device → Scope
 scope_of_device d = DeviceScope d.id

@@ -1,3 +1,4 @@
+pub mod ActRows
 pub mod ActTable
 pub mod Arrival
 pub mod Counting
@@ -7,6 +8,7 @@ pub mod Examples
 pub mod Judging
 pub mod JudgingLaws
 pub mod KeyTables
+pub mod Limits
 pub mod ShowText
 pub mod State
 pub mod Strikes

@@ -1,5 +1,6 @@
 -- The state of a team, as tables that ascend by name or id.
-use Rattle.std.specs.Prelude.{ℕ, Bool, not, ◌&&◌, List, [], filter, length, codes, Option, None, is_none}
+use Rattle.std.specs.Prelude.{ℕ, Bool, not, ◌&&◌, List, [], filter, find, length, codes, Option, None, is_none}
+use Rattle.std.specs.Option.{option_map_or}
 use Rattle.std.specs.List.{list_any}
 use Rattle.team_sets.specs.Names.{Name, same_name, name_lt, has_name, put_in}
 use Rattle.team_model.specs.declared.terms.Member.{Member}
@@ -67,3 +68,26 @@ module _ (s : State) where
   -- u is an admin and no other user is
   abbrev pub is_only_admin : Name → Bool
   is_only_admin u = is_admin u && not (list_any (λ m. has_name m.roles admin && not (same_name m.user u)) s.members)
+
+  abbrev pub member_row : Name → Option Member
+  member_row u = find (λ m. same_name m.user u) s.members
+
+  -- the roles of u, none where u isn't listed
+  abbrev pub roles_of : Name → List Name
+  roles_of u = option_map_or (λ m. m.roles) (member_row u) []
+
+  -- whether a member has the role
+  abbrev pub is_given : Name → Bool
+  is_given r = list_any (λ m. has_name m.roles r) s.members
+
+  -- the row of a device that was ever listed
+  abbrev pub device_row : Name → Option Device
+  device_row d = find (λ x. same_name x.id d) s.devices
+
+  -- how many devices are listed for u
+  abbrev pub devices_listed : Name → ℕ
+  devices_listed u = length (filter (λ x. x.listed && same_name x.user u) s.devices)
+
+  -- whether another device than d is listed for u
+  abbrev pub has_other_device : Name → Name → Bool
+  has_other_device u d = list_any (λ x. x.listed && (same_name x.user u && not (same_name x.id d))) s.devices

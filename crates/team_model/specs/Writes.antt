@@ -1,5 +1,6 @@
 -- What a write to the tables of a state changes.
 use Rattle.std.specs.Prelude.{ℕ, true, false, if◌then◌else◌, List, [], ◌∷◌, ◌++◌, Some, map}
+use Rattle.std.specs.Option.{option_map_or}
 use Rattle.team_sets.specs.Names.{Name, same_name}
 use Rattle.tg_text.specs.declared.keys.KeyId.{KeyId}
 use Rattle.tg_text.specs.declared.keys.BoxLine.{BoxLine}
@@ -7,11 +8,15 @@ use Rattle.team_model.specs.declared.terms.Member.{Member}
 use Rattle.team_model.specs.declared.terms.Device.{Device}
 use Rattle.team_model.specs.declared.terms.Invitation.{Invitation}
 use Rattle.team_model.specs.KeyTables.{put_current}
-use Rattle.team_model.specs.State.{State, drop_row, put_name, put_row}
+use Rattle.team_model.specs.State.{State, device_row, drop_row, put_name, put_row}
 
 -- a device's row without its listing, if it is the user's
 abbrev pub unlist_of : Name → Device → Device
 unlist_of u d = if same_name d.user u then record d { listed = false } else d
+
+-- a device's row without its listing
+abbrev pub unlisted : Device → Device
+unlisted d = record d { listed = false }
 
 -- the row of a device that is listed for a user
 abbrev pub listed_device : Name → List ℕ → Name → Device
@@ -45,3 +50,15 @@ module _ (s : State) where
 
   abbrev pub with_box : BoxLine → State
   with_box line = record s { boxes = s.boxes ++ line ∷ [] }
+
+  -- a user is listed, with these roles and no others
+  abbrev pub with_roles : Name → List Name → State
+  with_roles user roles = with_member (record { user = user; roles = roles })
+
+  -- a device that was ever listed is unlisted
+  abbrev pub without_device : Name → State
+  without_device id = option_map_or (λ d. with_device (unlisted d)) (device_row s id) s
+
+-- a new member without roles, with a first device
+abbrev pub with_newcomer : State → Name → Name → List ℕ → State
+with_newcomer s user id seal = with_device (with_roles s user []) (listed_device id seal user)

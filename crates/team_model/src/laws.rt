@@ -1,6 +1,7 @@
+ghost use Rattle.team_model.specs.ActRows.{DeviceRow, FoundingRow, GiftRow, ListedRow, NewcomerRow, RemovalRow, RoleRow, RotationRow, TitleRow};
 ghost use Rattle.team_model.specs.CountingLaws.{CountingAreByListed, CountingIsRight, RankIsDefined, StandersAreApart, TeamRulesBringIn};
 ghost use Rattle.team_model.specs.DebtLaws.{KeylessOweEachKey};
-ghost use Rattle.team_model.specs.Examples.{ArrivalRow, ReefRow, ShownRow, WaitingRow};
+ghost use Rattle.team_model.specs.Examples.{ArrivalRow, LateRow, ReefRow, RingRow, ShownRow, TwoRow, WaitingRow};
 ghost use Rattle.team_model.specs.JudgingLaws.{CountingArePermitted, LawfulStays, MeaningIsOfOrder, MeaningIsOfSet, NoneIsStruck, TeamIsFold, TeamOfPast, TextIsOfSet, WaitingHaveNoEffect};
 
 /// The team of a set of links is the fold over its resolved list, and a link is lawful by the team of its past.
@@ -18,7 +19,7 @@ pub fn team_of_past()
     ensures { TeamOfPast }
 {}
 
-/// None of the acts strikes, so no lawful link is struck.
+/// Where none of the lawful links strikes, none of them is struck.
 pub fn none_is_struck()
     ensures { NoneIsStruck }
 {}
@@ -86,4 +87,32 @@ pub fn worked_show()
 /// Links that waited connect with the one that they waited for, parents first and then by name.
 pub fn worked_arrival()
     ensures { ArrivalRow }
+{}
+
+/// The rows of the act table, each with its reasons in their order: who founds, who is listed, who comes and goes.
+pub fn worked_members()
+    ensures founding { FoundingRow }
+    ensures listed { ListedRow }
+    ensures newcomers { NewcomerRow }
+    ensures removals { RemovalRow }
+{}
+
+/// The rows on roles: new ones and old ones, given and taken.
+pub fn worked_roles()
+    ensures roles { RoleRow }
+    ensures gifts { GiftRow }
+{}
+
+/// The rows on devices, rotations and titles.
+pub fn worked_devices()
+    ensures devices { DeviceRow }
+    ensures rotations { RotationRow }
+    ensures titles { TitleRow }
+{}
+
+/// Two admins who remove each other, three who do so in a ring, and a removal that comes late.
+pub fn worked_removals()
+    ensures two { TwoRow }
+    ensures ring { RingRow }
+    ensures late { LateRow }
 {}
