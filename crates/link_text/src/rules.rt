@@ -31,7 +31,19 @@ fn is_found(act: &Act) -> bool
 fn is_read_yet(act: &Act) -> bool
     ensures { result ≡ is_read_yet act.now }
 {
-    matches!(act, Act::Found { .. } | Act::Title { .. } | Act::Join)
+    match act {
+        Act::Found { .. } => true,
+        Act::AddMember { .. } => true,
+        Act::AddRole { .. } => true,
+        Act::RemoveRole { .. } => true,
+        Act::GiveRole { .. } => true,
+        Act::AddDevice { .. } => true,
+        Act::Rotate { .. } => true,
+        Act::Seal => true,
+        Act::Title { .. } => true,
+        Act::Join => true,
+        _ => false,
+    }
 }
 
 // Whether each name is before the next.
