@@ -12,9 +12,8 @@ use Rattle.key_reach.specs.Keys.{same_scope}
 use Rattle.key_reach.proofs.Meeting.{scope-decides, scope-is}
 use Rattle.team_sets.specs.Members.{IsIn}
 use Rattle.team_model.specs.State.{State}
-use Rattle.team_model.specs.KeyTables.{all_keys, live_scopes}
+use Rattle.team_model.specs.KeyTables.{all_keys, current_key, live_scopes}
 use Rattle.team_state.specs.Kept.{IsOrdered}
-use Rattle.team_state.specs.Questions.{current_key}
 use Rattle.team_state.proofs.Placed.{all-weaker}
 use Rattle.team_state.proofs.Ascending.{keys-ascend, scope_of_key, scopes-ascend}
 use Rattle.team_state.proofs.Scopes.{itself}

@@ -50,6 +50,13 @@ is_listed_row i d = d.listed && same_name d.id i
 abbrev pub is_other_admin : Name → Member → Bool
 is_other_admin u m = has_name m.roles admin && not (same_name m.user u)
 
+-- whether a member has a role, whoever it is, and whether a device is another one that is listed for this user
+abbrev pub has_given : Name → Member → Bool
+has_given r m = has_name m.roles r
+
+abbrev pub is_other_device : Name → Name → Device → Bool
+is_other_device u i d = d.listed && (same_name d.user u && not (same_name d.id i))
+
 -- the devices that stay listed without a user
 abbrev pub stays_listed : Name → Device → Bool
 stays_listed u d = d.listed && not (same_name d.user u)

@@ -7,6 +7,7 @@
 
 mod kinds;
 mod looking;
+mod roles;
 mod rows;
 mod state;
 mod table;

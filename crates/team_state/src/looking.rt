@@ -5,7 +5,7 @@ ghost use Rattle.team_sets.specs.Names.{has_name, same_name};
 ghost use Rattle.tg_text.specs.Order.{scope_cmp};
 ghost use Rattle.key_reach.specs.Keys.{same_scope};
 ghost use Rattle.team_model.specs.State.{admin};
-ghost use Rattle.team_state.specs.Kept.{device_key, is_listed_row, is_other_admin, member_has, member_key, name_cmp, row_lists};
+ghost use Rattle.team_state.specs.Kept.{device_key, has_given, is_listed_row, is_other_admin, is_other_device, member_has, member_key, name_cmp, row_lists};
 ghost use Rattle.team_state.specs.Rows.{Ascend};
 
 use crate::rows::{Row, place_of};
@@ -108,6 +108,38 @@ fn is_other_admin(member: &Member, user: &UserName) -> bool
     ensures { result ≡ is_other_admin user.now member.now }
 {
     has_name(member.roles.as_slice(), &RoleName::admin()) && member.user != *user
+}
+
+/// Whether a member has a role.
+pub(crate) fn is_given(members: &[Member], role: &RoleName) -> bool
+    ensures { result ≡ list_any (has_given role.now) members.now }
+{
+    members.iter().any(|member| has_given(member, role))
+}
+
+fn has_given(member: &Member, role: &RoleName) -> bool
+    ensures { result ≡ has_given role.now member.now }
+{
+    has_name(member.roles.as_slice(), role)
+}
+
+/// Whether another device than this one is listed for a user.
+pub(crate) fn has_other_device(devices: &[Device], user: &UserName, device: &DeviceId) -> bool
+    ensures { result ≡ list_any (is_other_device user.now device.now) devices.now }
+{
+    devices.iter().any(|row| is_other_device(row, user, device))
+}
+
+fn is_other_device(row: &Device, user: &UserName, device: &DeviceId) -> bool
+    ensures { result ≡ is_other_device user.now device.now row.now }
+{
+    row.listed && is_another_of(row, user, device)
+}
+
+fn is_another_of(row: &Device, user: &UserName, device: &DeviceId) -> bool
+    ensures { result ≡ (same_name row.now.user user.now && not (same_name row.now.id device.now)) }
+{
+    row.user == *user && row.id != *device
 }
 
 /// How many devices were ever listed for a user.

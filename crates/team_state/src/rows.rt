@@ -1,4 +1,4 @@
-ghost use Rattle.std.specs.Prelude.{◌≡◌, Bool, ◌<◌, ◌+◌, [], ◌∷◌, drop, take, length, IfErr, IfOk, option_copied, slice_index_or, vec_len, vec_capacity};
+ghost use Rattle.std.specs.Prelude.{◌≡◌, Bool, ◌<◌, ◌≤◌, ◌+◌, [], ◌∷◌, drop, take, length, IfErr, IfOk, option_copied, slice_index_or, vec_len, vec_capacity};
 ghost use Rattle.std.specs.declared.cmp.Ordering.{Ordering};
 ghost use Rattle.std.specs.Ordering.{eq_by_cmp};
 ghost use Rattle.std.specs.List.Sorted.{IsSearchInRange};
@@ -58,7 +58,10 @@ pub(crate) fn row_of<'a, T: Row>(rows: &'a [T], key: &T::Key) -> Option<&'a T>
 pub(crate) fn put_row<T: Row>(rows: &mut Vec<T>, row: T)
     requires ascends { Ascend T.order T.key_of rows.old.items }
     requires room { vec_len rows.old < vec_capacity rows.old }
-    ensures { rows.new.items ≡ with_row T.order T.same T.key_of row rows.old.items }
+    ensures rows { rows.new.items ≡ with_row T.order T.same T.key_of row rows.old.items }
+    ensures ascends { Ascend T.order T.key_of rows.new.items }
+    ensures longer { vec_len rows.new ≤ vec_len rows.old + 1 }
+    ensures room { vec_capacity rows.new ≡ vec_capacity rows.old }
 {
     let key = row.key();
     match place_of(rows.as_slice(), &key) {

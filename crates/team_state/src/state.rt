@@ -1,27 +1,31 @@
 ghost use Rattle.std.specs.Prelude.{◌≡◌, [], false, true, IfOk, Some, option_copied, OnErr, OnOk};
 ghost use Rattle.key_reach.specs.Keys.{is_device, same_scope};
-ghost use Rattle.team_model.specs.KeyTables.{all_keys, key_table};
+ghost use Rattle.team_model.specs.KeyTables.{all_keys, current_key, key_table};
 ghost use Rattle.team_sets.specs.Members.{IsIn};
 ghost use Rattle.team_sets.specs.Names.{has_name};
-ghost use Rattle.team_model.specs.State.{devices_ever, empty_state, has_role, is_admin, is_empty_state, is_listed, is_only_admin, lists_device, lists_user, was_listed};
+ghost use Rattle.team_model.specs.State.{device_row, devices_ever, devices_listed, drop_row, empty_state, has_other_device, has_role, is_admin, is_empty_state, is_given, is_listed, is_only_admin, lists_device, lists_user, member_row, put_name, roles_of, was_listed};
 ghost use Rattle.team_model.specs.Writes as after;
 ghost use Rattle.team_sets.specs.SortedLaws.{IsAscending, by_names};
 ghost use Rattle.team_state.specs.AscentLaws.{TablesAscend};
-ghost use Rattle.team_state.specs.Questions.{current_key, device_row, devices_listed, invitation_row, member_row, open_invitations};
+ghost use Rattle.team_state.specs.Questions.{invitation_row, open_invitations};
 
 use crate::looking::{
-    count_devices, count_listed, count_open, has_device, has_member, has_other_admin, has_role,
-    has_scope, is_listed, leads_to_role, lists_device, member_has_role,
+    count_devices, count_listed, count_open, has_device, has_member, has_other_admin,
+    has_other_device, has_role, has_scope, is_given, is_listed, leads_to_role, lists_device,
+    member_has_role,
 };
+use crate::roles::{roles_with, roles_without};
 use crate::rows::{Piece, row_of};
 use crate::table::{Table, append, drop_both, make_table, put, put_both};
-use crate::writing::{drop_user, put_device_rows, scopes_without};
+use crate::writing::{
+    drop_user, put_device_rows, put_newcomer_rows, scopes_without, without_listing,
+};
 use key_reach::KeyTable;
 use std::alloc::Global;
 use std::marker::Model;
 use std::rc::Rc;
 use team_model::{Device, Invitation, Member};
-use tg_text::{BoxLine, DeviceId, KeyId, Memory, RoleName, Scope, Title, UserName};
+use tg_text::{BoxLine, DeviceId, Items, KeyId, Memory, RoleName, Scope, Title, UserName};
 
 /// The state of a team. Its tables ascend: members and roles by name, devices and invitations by id, current keys by scope.
 /// Copies share their tables, and a table is copied when it is written while it is shared.
@@ -174,6 +178,30 @@ impl TeamState {
         row_of(self.members.rows.as_slice(), user)
     }
 
+    /// The roles of a user, none where the user isn't listed.
+    pub fn roles_of(&self, user: &UserName) -> &[RoleName]
+        ensures { result.now ≡ roles_of self.now user.now }
+    {
+        match self.member(user) {
+            Some(member) => member.roles.as_slice(),
+            None => &[],
+        }
+    }
+
+    /// Whether a member has a role.
+    pub fn is_given(&self, role: &RoleName) -> bool
+        ensures { result ≡ is_given self.now role.now }
+    {
+        is_given(self.members.rows.as_slice(), role)
+    }
+
+    /// Whether another device than this one is listed for a user.
+    pub fn has_other_device(&self, user: &UserName, device: &DeviceId) -> bool
+        ensures { result ≡ has_other_device self.now user.now device.now }
+    {
+        has_other_device(self.devices.rows.as_slice(), user, device)
+    }
+
     /// The row of a device that was ever listed.
     pub fn device(&self, device: &DeviceId) -> Option<&Device>
         ensures { option_copied result ≡ device_row self.now device.now }
@@ -265,6 +293,46 @@ impl TeamState {
         Ok(())
     }
 
+    /// Lists a user and a device, both or, without memory, none.
+    pub fn put_newcomer(&mut self, member: Member, device: Device) -> Result<(), Memory>
+        ensures ok { OnOk result (self.new ≡ after.with_device (after.with_member self.old member) device) }
+        ensures err { OnErr result (self.new ≡ self.old) }
+    {
+        put_newcomer_rows(
+            &mut self.members,
+            &mut self.devices,
+            &mut self.keys,
+            &mut self.scopes,
+            member,
+            device,
+        )?;
+        Ok(())
+    }
+
+    /// Gives a user a role. The user is listed then.
+    pub fn give_role(&mut self, user: &UserName, role: &RoleName) -> Result<(), Memory>
+        ensures ok { OnOk result (self.new ≡ after.with_roles self.old user.now (put_name role.now (roles_of self.old user.now))) }
+        ensures err { OnErr result (self.new ≡ self.old) }
+    {
+        let roles = roles_with(self.alloc, self.roles_of(user), role)?;
+        self.put_member(Member {
+            user: *user,
+            roles: Items::from_vec(roles),
+        })
+    }
+
+    /// Takes a role from a user. The user is listed then.
+    pub fn take_role(&mut self, user: &UserName, role: &RoleName) -> Result<(), Memory>
+        ensures ok { OnOk result (self.new ≡ after.with_roles self.old user.now (drop_row (λ r. r) role.now (roles_of self.old user.now))) }
+        ensures err { OnErr result (self.new ≡ self.old) }
+    {
+        let roles = roles_without(self.alloc, self.roles_of(user), role)?;
+        self.put_member(Member {
+            user: *user,
+            roles: Items::from_vec(roles),
+        })
+    }
+
     /// Drops a user, whose devices become unlisted.
     pub fn drop_member(&mut self, user: &UserName) -> Result<(), Memory>
         ensures ok { OnOk result (self.new ≡ after.without_member self.old user.now) }
@@ -307,6 +375,18 @@ impl TeamState {
     {
         put_device_rows(&mut self.devices, &mut self.keys, &mut self.scopes, device)?;
         Ok(())
+    }
+
+    /// Unlists a device, where it was ever listed.
+    pub fn unlist_device(&mut self, device: &DeviceId) -> Result<(), Memory>
+        ensures ok { OnOk result (self.new ≡ after.without_device self.old device.now) }
+        ensures err { OnErr result (self.new ≡ self.old) }
+    {
+        let Some(row) = self.device(device) else {
+            return Ok(());
+        };
+        let row = without_listing(row);
+        self.put_device(row)
     }
 
     /// Writes the row of an invitation.

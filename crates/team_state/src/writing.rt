@@ -3,11 +3,11 @@ ghost use Rattle.std.specs.Ordering.{nat_cmp};
 ghost use Rattle.std.specs.Cmp.Lexicographic.{slice_cmp};
 ghost use Rattle.team_sets.specs.Names.{same_name};
 ghost use Rattle.tg_text.specs.Order.{scope_cmp};
-ghost use Rattle.tg_text.specs.declared.keys.Scope.TheVariants.{Device as of_device};
+ghost use Rattle.tg_text.specs.declared.keys.Scope.TheVariants.{Device as of_device, User as of_user};
 ghost use Rattle.key_reach.specs.Keys.{same_scope};
 ghost use Rattle.team_model.specs.KeyTables.{key_of_device, scope_of_device};
 ghost use Rattle.team_model.specs.State.{drop_row as rows_without, put_row as rows_with};
-ghost use Rattle.team_model.specs.Writes.{unlist_of};
+ghost use Rattle.team_model.specs.Writes.{unlist_of, unlisted};
 ghost use Rattle.team_state.specs.Kept.{device_key, device_scopes, keeps_scope, key_scope, member_key, name_cmp, stays_listed};
 ghost use Rattle.team_state.specs.Rows.{Ascend, with_row, without_key};
 
@@ -113,6 +113,54 @@ fn unlisted(device: &Device, user: &UserName) -> Device
         device.listed = false;
     }
     device
+}
+
+/// A device that isn't listed.
+pub(crate) fn without_listing(device: &Device) -> Device
+    ensures { result ≡ unlisted device.now }
+{
+    let mut device = *device;
+    device.listed = false;
+    device
+}
+
+/// Writes the rows of a user and of a device, the device's key, and the scopes of both.
+pub(crate) fn put_newcomer_rows(
+    members: &mut Rc<Table<Member>>,
+    devices: &mut Rc<Table<Device>>,
+    keys: &mut Rc<Table<KeyId>>,
+    scopes: &mut Rc<Table<Scope>>,
+    member: Member,
+    device: Device,
+) -> Result<(), Memory>
+    requires members { Ascend name_cmp member_key members.old.value.rows.items }
+    requires devices { Ascend name_cmp device_key devices.old.value.rows.items }
+    requires keys { Ascend scope_cmp key_scope keys.old.value.rows.items }
+    requires scopes { Ascend scope_cmp (λ s. s) scopes.old.value.rows.items }
+    ensures members { OnOk result (members.new.value.rows.items ≡ rows_with member_key member members.old.value.rows.items) }
+    ensures devices { OnOk result (devices.new.value.rows.items ≡ rows_with device_key device devices.old.value.rows.items) }
+    ensures keys { OnOk result (keys.new.value.rows.items ≡ with_row scope_cmp same_scope key_scope (key_of_device device) keys.old.value.rows.items) }
+    ensures scopes { OnOk result (scopes.new.value.rows.items ≡ device_scopes device (with_row scope_cmp same_scope (λ s. s) (of_user member.user) scopes.old.value.rows.items)) }
+    ensures members_stay { OnErr result (members.new.value.rows.items ≡ members.old.value.rows.items) }
+    ensures devices_stay { OnErr result (devices.new.value.rows.items ≡ devices.old.value.rows.items) }
+    ensures keys_stay { OnErr result (keys.new.value.rows.items ≡ keys.old.value.rows.items) }
+    ensures scopes_stay { OnErr result (scopes.new.value.rows.items ≡ scopes.old.value.rows.items) }
+{
+    let members = Rc::make_mut(members)?;
+    members.rows.reserve(1)?;
+    let devices = Rc::make_mut(devices)?;
+    devices.rows.reserve(1)?;
+    let keys = Rc::make_mut(keys)?;
+    keys.rows.reserve(1)?;
+    let scopes = Rc::make_mut(scopes)?;
+    scopes.rows.reserve(2)?;
+    let scope = Scope::User(member.user);
+    put_row(&mut members.rows, member);
+    put_row(&mut scopes.rows, scope);
+    put_row(&mut devices.rows, device);
+    put_row(&mut keys.rows, make_device_key(&device));
+    put_device_scope(&mut scopes.rows, &device);
+    Ok(())
 }
 
 /// Writes the row of a device, its key, and its scope, which is live where the device is listed.

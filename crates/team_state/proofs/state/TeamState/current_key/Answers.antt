@@ -1,9 +1,8 @@
 use Rattle.std.proofs.Common.{◌≡◌, ◌∙◌, Some, subst, rules}
 use Rattle.std.specs.Prelude.{option_copied}
 use Rattle.team_sets.specs.Members.{IsIn}
-use Rattle.team_model.specs.KeyTables.{all_keys}
+use Rattle.team_model.specs.KeyTables.{all_keys, current_key}
 use Rattle.team_model.specs.State.{State}
-use Rattle.team_state.specs.Questions.{current_key}
 use Rattle.team_state.proofs.Lawful.{key-only}
 use Rattle.team_state.proofs.Written.{keys-ascend-kept}
 use Rattle.team_state.proofs.state.TeamState.current_key.Goals as goal
