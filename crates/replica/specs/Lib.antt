@@ -1,3 +1,6 @@
+pub mod Below
+pub mod Calm
 pub mod Counting
-pub mod Held
 pub mod Judged
+pub mod Kept
+pub mod Views

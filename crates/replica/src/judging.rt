@@ -1,127 +1,95 @@
-ghost use Rattle.std.specs.Prelude.{◌≡◌, ℕ, ◌<◌, ◌≤◌, ◌^◌, [], All, filter, IfOk, is_none, length};
-ghost use Rattle.team_sets.specs.OrderLaws.{IsSet};
-ghost use Rattle.team_model.specs.ActTable.{refusal};
-ghost use Rattle.team_model.specs.Counting.{permitted_from};
-ghost use Rattle.team_model.specs.Judging.{fold_team, lawful, name_of, order_of, team, team_rules};
-ghost use Rattle.team_model.specs.ShowText.{count_counting};
-ghost use Rattle.team_model.specs.State.{empty_state};
-ghost use Rattle.replica.specs.Judged.{ancestor_rows, flag_at, IsOrdered};
-ghost use Rattle.link_graph.specs.Positions.{at_places};
+//! Which links are lawful. A link is judged once, when it connects, since its judgement is of its past alone.
+ghost use Rattle.std.specs.Prelude.{◌≡◌, ◌<◌, ◌-◌, IfOk, IsTrue, length};
+ghost use Rattle.link_graph.specs.Held.{arrived_of};
+ghost use Rattle.replica.specs.Judged.{AreJudged, FollowsOne, IsLast, IsPastOf};
+ghost use Rattle.replica.specs.Views.{judgements};
 
-use crate::ancestors::{find_ancestors, link_at};
-use crate::reducer::{apply, permits};
-use acts::Entry;
+use crate::folding::team_below;
+use crate::laws::held_links_strike_not;
+use link_graph::Graph;
 use std::alloc::Global;
-use team_model::Link;
+use team_model::Reason;
+use team_reducer::{apply, permits};
 use team_state::TeamState;
-use tg_text::{Items, Memory};
+use tg_outside::{StepLedger, Steps};
+use tg_text::Memory;
 
-/// The team of a set of links, and how many of them count.
-#[derive(Debug, Drop)]
-pub(crate) struct Judged {
-    pub(crate) state: TeamState,
-    pub(crate) counting: u32,
+// Whether the link of a position has the one before it as its only parent.
+fn follows(graph: &Graph, position: u32) -> bool
+    requires given { position < length (arrived_of graph.now.links) }
+    requires later { 0 < position }
+    ensures { IsTrue result → FollowsOne graph.now.links position }
+{
+    match graph.link_at(position).prev.as_slice() {
+        [parent] => *parent == graph.link_at(position - 1).name,
+        _ => false,
+    }
 }
 
-/// The team of those of the lawful links whose flags are set in the row.
-fn past_state(
+// The team of the past of the link of a position, whose only parent is the link before it. `last` is the team of that one's past.
+fn follow<L: StepLedger>(
     alloc: Global,
-    links: &[Link],
-    places: &[usize],
-    lawful: &[usize],
-    row: &[bool],
+    graph: &Graph,
+    position: u32,
+    last: TeamState,
+    steps: &mut Steps<L>,
 ) -> Result<TeamState, Memory>
-    requires range { All (λ i. i < length links.now) places.now }
-    requires lawful_in_row { All (λ j. j < length row.now) lawful.now }
-    requires row_in_order { length row.now ≤ length places.now }
-    ensures { IfOk result (λ state. state ≡ fold_team team_rules (at_places (at_places links.now places.now) (filter (flag_at row.now) lawful.now))) }
+    requires given { position < length (arrived_of graph.now.links) }
+    requires later { 0 < position }
+    requires follows { FollowsOne graph.now.links position }
+    requires last { IsPastOf graph.now.links (position - 1) last }
+    ensures { IfOk result (λ state. IsPastOf graph.now.links position state) }
 {
-    let mut state = TeamState::new(alloc)?;
-    for &j in lawful {
-        if row[j] {
-            apply(alloc, &mut state, &link_at(links, places, j).entry)?;
-        }
-    }
+    // Laws: they do nothing at run time.
+    graph.is_held();
+    held_links_strike_not();
+    let mut state = last;
+    apply(alloc, &mut state, &graph.link_at(position - 1).entry, steps)?;
     Ok(state)
 }
 
-/// Whether an entry is permitted by the team of those of the lawful links whose flags are set in the row.
-fn is_permitted(
+// The team of the past of the next link to be judged. `last` is that of the link that was judged last, if it is at hand.
+fn next_past<L: StepLedger>(
     alloc: Global,
-    links: &[Link],
-    places: &[usize],
-    lawful: &[usize],
-    row: &[bool],
-    entry: &Entry,
-) -> Result<bool, Memory>
-    requires range { All (λ i. i < length links.now) places.now }
-    requires lawful_in_row { All (λ j. j < length row.now) lawful.now }
-    requires row_in_order { length row.now ≤ length places.now }
-    ensures { IfOk result (λ b. b ≡ is_none (refusal (fold_team team_rules (at_places (at_places links.now places.now) (filter (flag_at row.now) lawful.now))) entry.now)) }
+    graph: &Graph,
+    judged: &[Option<Reason>],
+    last: Option<TeamState>,
+    steps: &mut Steps<L>,
+) -> Result<TeamState, Memory>
+    requires judged { AreJudged graph.now.links judged.now }
+    requires next { length judged.now < length (arrived_of graph.now.links) }
+    requires last { IsLast graph.now.links (length judged.now) last }
+    ensures { IfOk result (λ state. IsPastOf graph.now.links (length judged.now) state) }
 {
-    let state = past_state(alloc, links, places, lawful, row)?;
-    Ok(permits(&state, entry).is_ok())
-}
-
-/// The places, within the order, of the lawful links.
-fn lawful_places(
-    alloc: Global,
-    links: &[Link],
-    places: &[usize],
-    rows: &[Items<bool>],
-) -> Result<Vec<usize>, Memory>
-    requires ordered { IsOrdered links.now places.now }
-    requires rows { rows.now ≡ ancestor_rows links.now [] (order_of links.now) }
-    requires size { length rows.now ≡ length places.now }
-    ensures range { IfOk result (λ lawful. All (λ j. j < length places.now) lawful.items) }
-    ensures lawful { IfOk result (λ found. at_places (order_of links.now) found.items ≡ lawful team_rules links.now) }
-    ensures few { IfOk result (λ lawful. length lawful.items ≤ length places.now) }
-{
-    let mut lawful = Vec::new(alloc);
-    for k in 0..places.len() {
-        let entry = &link_at(links, places, k).entry;
-        if is_permitted(alloc, links, places, &lawful, rows[k].as_slice(), entry)? {
-            lawful.push(k)?;
+    // A law: it does nothing at run time.
+    graph.is_held();
+    let position = judged.len() as u32;
+    match last {
+        Some(state) if follows(graph, position) => follow(alloc, graph, position, state, steps),
+        _ => {
+            let parents = graph.link_at(position).prev.as_slice();
+            team_below(alloc, graph, judged, parents, steps)
         }
     }
-    Ok(lawful)
 }
 
-/// The team of the lawful links, and how many of them are permitted at their turn.
-fn reduce(
+/// Why each connected link is unlawful, if it is, by position. Those of the first positions are known, and the others are judged.
+pub(crate) fn judge<L: StepLedger>(
     alloc: Global,
-    links: &[Link],
-    places: &[usize],
-    lawful: &[usize],
-) -> Result<Judged, Memory>
-    requires range { All (λ i. i < length links.now) places.now }
-    requires lawful_in_order { All (λ j. j < length places.now) lawful.now }
-    requires few { length lawful.now < 2 ^ 32 }
-    ensures state { IfOk result (λ it. it.state ≡ fold_team team_rules (at_places (at_places links.now places.now) lawful.now)) }
-    ensures counting { IfOk result (λ it. it.counting ≡ permitted_from team_rules empty_state (at_places (at_places links.now places.now) lawful.now)) }
+    graph: &Graph,
+    known: &[Option<Reason>],
+    steps: &mut Steps<L>,
+) -> Result<Vec<Option<Reason>>, Memory>
+    requires { AreJudged graph.now.links known.now }
+    ensures { IfOk result (λ judged. judged.items ≡ judgements graph.now.links) }
 {
-    let mut state = TeamState::new(alloc)?;
-    let mut counting = 0;
-    for &k in lawful {
-        let refused = apply(alloc, &mut state, &link_at(links, places, k).entry)?;
-        if refused.is_none() {
-            counting += 1;
-        }
+    let mut judged = Vec::from_slice(alloc, known)?;
+    let mut last = None;
+    for position in known.len()..graph.connected() as usize {
+        let state = next_past(alloc, graph, &judged, last, steps)?;
+        let link = graph.link_at(position as u32);
+        judged.push(permits(&state, &link.entry).err())?;
+        last = Some(state);
     }
-    Ok(Judged { state, counting })
-}
-
-/// The team of a set of links, found from scratch: each link is judged by the fold over its lawful ancestors. `places` are those
-/// of the connected links, in the order of the team.
-pub(crate) fn judge(alloc: Global, links: &[Link], places: &[usize]) -> Result<Judged, Memory>
-    requires set { IsSet name_of links.now }
-    requires range { All (λ i. i < length links.now) places.now }
-    requires order { at_places links.now places.now ≡ order_of links.now }
-    requires few { length links.now < 2 ^ 32 }
-    ensures state { IfOk result (λ it. it.state ≡ team team_rules links.now) }
-    ensures counting { IfOk result (λ it. it.counting ≡ count_counting links.now) }
-{
-    let rows = find_ancestors(alloc, links, places)?;
-    let lawful = lawful_places(alloc, links, places, &rows)?;
-    reduce(alloc, links, places, &lawful)
+    Ok(judged)
 }

@@ -1,4 +1,5 @@
 ghost use Rattle.replica.specs.Counting.{CountingLinksAreRight};
+ghost use Rattle.replica.specs.Calm.{HeldLinksStrikeNot};
 
 use team_model::counting_is_right;
 
@@ -9,3 +10,8 @@ pub fn counting_links_are_right()
 {
     counting_is_right();
 }
+
+/// No link of a held set strikes, since no act that strikes is read yet.
+pub fn held_links_strike_not()
+    ensures { HeldLinksStrikeNot }
+{}

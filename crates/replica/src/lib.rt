@@ -1,20 +1,25 @@
-//! One replica: the links of a team that it holds, and what it shows of them.
+//! One replica: the links of a team that it holds, and what they mean.
 //!
-//! The links are held by a `Graph` of `link_graph`, which says what becomes of a text. `specs/Held.antt` says what is shown of a
-//! set of links, over the order, the team and the counting links of `team_model`. The calls of `Replica` cite both; the texts that
-//! are printed and the top call stand on them.
+//! The links are held by a `Graph` of `link_graph`, which says what becomes of a text. `specs/Views.antt` says what a view of a set of
+//! links is, over the team, the resolved list and the verdicts of `team_model`. The calls of `Replica` cite both; the texts that are
+//! printed and the top call stand on them.
+//!
+//! `judging` finds which links are lawful, each once; `resolving` which of them stay, `folding` what comes of these in their turn, and
+//! `viewing` the view of it. `below` marks links with their ancestors.
 #![tactic(auto)]
 
-mod ancestors;
+mod below;
+mod folding;
 mod judging;
 mod laws;
-mod looking;
-mod reducer;
 mod replica;
+mod resolving;
 mod view;
+mod viewing;
 
-pub use laws::counting_links_are_right;
+pub use laws::{counting_links_are_right, held_links_strike_not};
 pub use link_graph::{Graph, TakeFault, Took};
 pub use replica::Replica;
+pub use team_model::{Reason, Verdict};
 pub use team_state::TeamState;
 pub use view::View;

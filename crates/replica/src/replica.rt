@@ -1,55 +1,66 @@
 ghost use Rattle.std.specs.Prelude.{◌≡◌, ◌<◌, [], ◌↔◌, length, IsTrue, IfOk, OnOk, OnErr};
-ghost use Rattle.link_graph.specs.Held.{arrived_of};
 ghost use Rattle.link_graph.specs.Taking.{Answers};
 ghost use Rattle.link_graph.specs.Webs.{without_last};
-ghost use Rattle.replica.specs.Held.{sight_of};
+ghost use Rattle.team_model.specs.Judging.{team, team_rules};
+ghost use Rattle.replica.specs.Below.{AreConnected, with_pasts};
+ghost use Rattle.replica.specs.Kept.{IsKept};
+ghost use Rattle.replica.specs.Views.{IsViewOf, judgements, verdict_named};
 
+use crate::folding::team_below;
 use crate::laws::counting_links_are_right;
-use crate::looking::look;
 use crate::view::View;
+use crate::viewing::{Kept, look};
 use link_graph::{Graph, TakeFault, Took};
 use std::alloc::Global;
 use std::marker::Model;
-use tg_outside::{StepLedger, Steps};
+use team_model::{Reason, Verdict};
+use team_state::TeamState;
+use tg_outside::{Silent, StepLedger, Steps};
 use tg_text::{LinkName, Memory};
 
-/// One holder of the links of a team. What is shown of them is found anew whenever a link comes.
+/// One holder of the links of a team. Each link is judged once, when it connects; the view is found anew whenever a link comes.
 #[derive(Drop)]
 pub struct Replica {
     graph: Graph,
-    view: View,
+    kept: Kept,
 }
 
 impl Model for Replica {
-    ghost use Rattle.std.specs.Prelude.{◌≡◌};
     ghost use Rattle.link_graph.specs.Held.{Held};
-    ghost use Rattle.replica.specs.Held.{sight_of};
+    ghost use Rattle.replica.specs.Kept.{IsKept};
 
     ghost Value = { Held };
 
     ghost view = { λ it. it.graph };
 
-    ghost invariant = { λ it. it.view ≡ sight_of it.graph.links };
+    ghost invariant = { λ it. IsKept it.graph.links it.kept };
 }
 
-/// Finds what is shown with the link that was taken last. Without memory for it the link is let go.
-fn look_again(alloc: Global, graph: &mut Graph, before: u32) -> Result<View, Memory>
+// Looks at the links with the one that was taken last. Without memory for it that link is let go.
+fn look_again<L: StepLedger>(
+    alloc: Global,
+    graph: &mut Graph,
+    known: &[Option<Reason>],
+    steps: &mut Steps<L>,
+) -> Result<Kept, Memory>
     requires held { 0 < length graph.old.links }
-    requires before { before ≡ length (arrived_of (without_last graph.old.links)) }
-    ensures view { IfOk result (λ view. view ≡ sight_of graph.new.links) }
+    requires known { known.now ≡ judgements (without_last graph.old.links) }
+    ensures kept { IfOk result (λ kept. IsKept graph.new.links kept) }
     ensures ok { OnOk result (graph.new ≡ graph.old) }
     ensures err { OnErr result (graph.new ≡ record graph.old { links = without_last graph.old.links }) }
 {
-    match look(alloc, graph) {
-        Ok(view) => Ok(view),
+    // A law: it does nothing at run time.
+    graph.is_held();
+    match look(alloc, graph, known, steps) {
+        Ok(kept) => Ok(kept),
         Err(memory) => {
-            graph.undo(before);
+            graph.undo(known.len() as u32);
             Err(memory)
         }
     }
 }
 
-/// Whether the answer says that the text was held before.
+// Whether the answer says that the text was held before.
 fn was_held(took: &Took) -> bool
     ensures { IsTrue result ↔ (took.now ≡ Took.Again) }
 {
@@ -64,14 +75,15 @@ impl Replica {
         Replica::with_graph(alloc, Graph::new(alloc, team))
     }
 
-    /// A replica that holds the links of a graph, as those of a team file. What is shown of them is found once.
+    /// A replica that holds the links of a graph, as those of a team file. They are judged, and their view is found once.
     pub fn with_graph(alloc: Global, graph: Graph) -> Result<Replica, Memory>
         ensures { IfOk result (λ it. it ≡ graph) }
     {
         // A law: it does nothing at run time.
         counting_links_are_right();
-        let view = look(alloc, &graph)?;
-        Ok(Replica { graph, view })
+        let mut steps = Steps::new(Silent);
+        let kept = look(alloc, &graph, &[], &mut steps)?;
+        Ok(Replica { graph, kept })
     }
 
     /// The name of the team's root.
@@ -88,11 +100,47 @@ impl Replica {
         &self.graph
     }
 
-    /// What is shown of the held links.
+    /// The team of the held links, and what became of each.
     pub fn view(&self) -> &View
-        ensures { result.now ≡ sight_of self.now.links }
+        ensures { IsViewOf self.now.links result.now }
     {
-        &self.view
+        &self.kept.view
+    }
+
+    /// The team of the held links.
+    pub fn state(&self) -> &TeamState
+        ensures { result.now ≡ team team_rules self.now.links }
+    {
+        &self.kept.view.state
+    }
+
+    /// What became of the link of this name, where it is held. It takes no memory.
+    pub fn verdict(&self, name: &LinkName) -> Option<Verdict>
+        ensures { result ≡ verdict_named self.now.links name.now }
+    {
+        // A law: it does nothing at run time.
+        self.graph.is_held();
+        match self.graph.position(name) {
+            Some(position) => Some(self.kept.view.verdicts.as_slice()[position as usize]),
+            None => {
+                if self.graph.holds(name) {
+                    Some(Verdict::Waiting)
+                } else {
+                    None
+                }
+            }
+        }
+    }
+
+    /// The team of these links with all their ancestors, found from scratch.
+    pub fn team_of(&self, alloc: Global, heads: &[LinkName]) -> Result<TeamState, Memory>
+        requires connected { AreConnected self.now.links heads.now }
+        ensures { IfOk result (λ state. state ≡ team team_rules (with_pasts self.now.links heads.now)) }
+    {
+        // A law: it does nothing at run time.
+        self.graph.is_held();
+        let mut steps = Steps::new(Silent);
+        team_below(alloc, &self.graph, &self.kept.judged, heads, &mut steps)
     }
 
     /// Takes the text of a link. Answers and faults are those of `Graph::take`. After a fault, want of memory included, the held
@@ -105,21 +153,11 @@ impl Replica {
     ) -> Result<Took, TakeFault>
         ensures { Answers self.old self.new bytes.now result }
     {
-        let before = self.graph.connected();
-        match self.graph.take(bytes) {
-            Ok(took) => {
-                if was_held(&took) {
-                    return Ok(took);
-                }
-                match look_again(alloc, &mut self.graph, before) {
-                    Ok(view) => {
-                        self.view = view;
-                        Ok(took)
-                    }
-                    Err(_) => Err(TakeFault::Memory),
-                }
-            }
-            Err(fault) => Err(fault),
+        let took = self.graph.take(bytes)?;
+        if was_held(&took) {
+            return Ok(took);
         }
+        self.kept = look_again(alloc, &mut self.graph, &self.kept.judged, steps)?;
+        Ok(took)
     }
 }

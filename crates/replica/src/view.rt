@@ -1,13 +1,14 @@
+use team_model::Verdict;
 use team_state::TeamState;
+use tg_text::Items;
 
-/// What is shown of the held links. Links that wait for a parent have no effect on the team.
+/// The team of the held links, and what became of each. Positions are those of the graph. Links that wait for a parent have none,
+/// and no effect on the team.
 #[derive(Debug, Drop)]
 pub struct View {
     pub state: TeamState,
-    /// How many links are held.
-    pub held: u32,
-    /// How many of them wait for a parent, or for a parent of one.
-    pub waiting: u32,
-    /// How many of them count.
-    pub counting: u32,
+    /// The positions of the resolved list: of the lawful links that no removal strikes, in the order of the team.
+    pub resolved: Items<u32>,
+    /// What became of the link of each position.
+    pub verdicts: Items<Verdict>,
 }

@@ -1,0 +1,10 @@
+use Rattle.std.proofs.Common.{◌≡◌, length, take}
+use Rattle.link_graph.specs.Held.{arrived_of}
+use Rattle.replica.specs.Judged.{AreMarked}
+use Rattle.replica.proofs.below.mark.Given as goal
+
+abbrev pub invariant-loop-name : goal.invariant-loop-name
+invariant-loop-name l = record {
+  size : length l.flags ≡ length (arrived_of l.graph.links);
+  marks : AreMarked l.graph.links (take l.name-index l.names) l.fn.flags l.flags;
+}

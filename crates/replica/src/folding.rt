@@ -1,0 +1,106 @@
+//! The team of links in their turn, and what becomes of each at its turn.
+ghost use Rattle.std.specs.Prelude.{◌≡◌, ◌<◌, All, IfOk, length, map};
+ghost use Rattle.team_model.specs.Judging.{fold_team, team, team_rules};
+ghost use Rattle.team_model.specs.State.{empty_state};
+ghost use Rattle.link_graph.specs.Held.{arrived_of};
+ghost use Rattle.link_graph.specs.Positions.{at_places};
+ghost use Rattle.replica.specs.Below.{with_pasts};
+ghost use Rattle.replica.specs.Judged.{AreGiven, AreJudged, first_verdict, noted, turned};
+
+use crate::below::find_below;
+use crate::resolving::resolve;
+use link_graph::Graph;
+use std::alloc::Global;
+use team_model::{Reason, Verdict};
+use team_reducer::apply;
+use team_state::TeamState;
+use tg_outside::{StepLedger, Steps};
+use tg_text::{LinkName, Memory};
+
+/// The team and the verdicts that come of links in their turn.
+#[derive(Debug, Drop)]
+pub(crate) struct Turns {
+    pub(crate) state: TeamState,
+    pub(crate) verdicts: Vec<Verdict>,
+}
+
+// The team that the links of these positions give, one after the other.
+fn fold_links<L: StepLedger>(
+    alloc: Global,
+    graph: &Graph,
+    positions: &[u32],
+    steps: &mut Steps<L>,
+) -> Result<TeamState, Memory>
+    requires given { All (λ p. p < length (arrived_of graph.now.links)) positions.now }
+    ensures { IfOk result (λ state. state ≡ fold_team team_rules (at_places (arrived_of graph.now.links) positions.now)) }
+{
+    let mut state = TeamState::new(alloc)?;
+    for &position in positions {
+        apply(alloc, &mut state, &graph.link_at(position).entry, steps)?;
+    }
+    Ok(state)
+}
+
+/// The team of the links of these names with all their ancestors, all of which are judged.
+pub(crate) fn team_below<L: StepLedger>(
+    alloc: Global,
+    graph: &Graph,
+    judged: &[Option<Reason>],
+    names: &[LinkName],
+    steps: &mut Steps<L>,
+) -> Result<TeamState, Memory>
+    requires judged { AreJudged graph.now.links judged.now }
+    requires given { AreGiven graph.now.links (length judged.now) names.now }
+    ensures { IfOk result (λ state. state ≡ team team_rules (with_pasts graph.now.links names.now)) }
+{
+    // A law: it does nothing at run time.
+    graph.is_held();
+    let marked = find_below(alloc, graph, names)?;
+    let resolved = resolve(alloc, graph, judged, &marked)?;
+    fold_links(alloc, graph, &resolved, steps)
+}
+
+// What becomes of the links before their turn.
+fn first_verdicts(alloc: Global, judged: &[Option<Reason>]) -> Result<Vec<Verdict>, Memory>
+    ensures { IfOk result (λ verdicts. verdicts.items ≡ map first_verdict judged.now) }
+{
+    let mut verdicts = Vec::new(alloc);
+    for unlawful in judged {
+        verdicts.push(match unlawful {
+            None => Verdict::Counts,
+            Some(reason) => Verdict::Unlawful(*reason),
+        })?;
+    }
+    Ok(verdicts)
+}
+
+fn note(verdicts: &mut [Verdict], position: u32, refused: Option<Reason>)
+    requires { position < length verdicts.old }
+    ensures { verdicts.new ≡ noted verdicts.old position refused }
+{
+    if let Some(reason) = refused {
+        verdicts[position as usize] = Verdict::Refused(reason);
+    }
+}
+
+/// Lets the links of these positions have their turn, one after the other.
+pub(crate) fn take_turns<L: StepLedger>(
+    alloc: Global,
+    graph: &Graph,
+    judged: &[Option<Reason>],
+    positions: &[u32],
+    steps: &mut Steps<L>,
+) -> Result<Turns, Memory>
+    requires given { All (λ p. p < length (arrived_of graph.now.links)) positions.now }
+    requires size { length judged.now ≡ length (arrived_of graph.now.links) }
+    ensures state { IfOk result (λ it. it.state ≡ fold_team team_rules (at_places (arrived_of graph.now.links) positions.now)) }
+    ensures verdicts { IfOk result (λ it. it.verdicts.items ≡ turned team_rules (arrived_of graph.now.links) empty_state positions.now (map first_verdict judged.now)) }
+{
+    let mut state = TeamState::new(alloc)?;
+    let mut verdicts = first_verdicts(alloc, judged)?;
+    for &position in positions {
+        let refused = apply(alloc, &mut state, &graph.link_at(position).entry, steps)?;
+        note(&mut verdicts, position, refused);
+    }
+    Ok(Turns { state, verdicts })
+}
