@@ -7,6 +7,7 @@ use Rattle.tg_text.specs.Spelling.{spell_decimal, spell_hex, line_of}
 use Rattle.team_model.specs.ShowText.{device_lt}
 use Rattle.team_model.specs.declared.terms.Member.{Member}
 use Rattle.team_model.specs.declared.terms.Device.{Device}
+use Rattle.team_report.specs.declared.show.Counts.{Counts}
 
 abbrev pub team_line : Name → List ℕ
 team_line t = line_of (codes "team" ∷ spell_hex t ∷ [])
@@ -15,9 +16,9 @@ team_line t = line_of (codes "team" ∷ spell_hex t ∷ [])
 abbrev pub title_line : Option (List ℕ) → List ℕ
 title_line o = option_map_or (λ title. line_of (codes "title" ∷ title ∷ [])) o []
 
-abbrev pub links_line : ℕ → ℕ → ℕ → List ℕ
-links_line held waiting counting =
-    line_of (codes "links" ∷ spell_decimal held ∷ codes "waiting" ∷ spell_decimal waiting ∷ codes "counting" ∷ spell_decimal counting ∷ [])
+abbrev pub links_line : Counts → List ℕ
+links_line c =
+    line_of (codes "links" ∷ spell_decimal c.held ∷ codes "waiting" ∷ spell_decimal c.waiting ∷ codes "counting" ∷ spell_decimal c.counting ∷ [])
 
 abbrev pub member_line : Member → List ℕ
 member_line m = line_of (codes "member" ∷ m.user ∷ m.roles)
