@@ -1,0 +1,38 @@
+//! Reads tables of entries, and prints which of them a state doesn't take as its line says.
+//!
+//! The words after the program's name are tables, files of `data/`. A line of a table is empty, a remark that begins with `#`, or
+//! one of these.
+//!
+//!     new                          the state is that before the team is founded
+//!     VERDICT USER DEVICE ACT ..   the entry of this author, by this device, is `permitted`, or refused by this reason
+//!     has FACT ..                  the state has this row: see `facts`
+//!     lacks FACT ..                it hasn't
+//!
+//! A device is a name, and its key is made of that. In an act `@NAME` stands for the key and `%NAME` for the id of the device, which
+//! serves for a seal too. The program prints of each table how many lines hold, and before that the number of each line that
+//! doesn't.
+#![tactic(auto)]
+
+mod devices;
+mod facts;
+mod reasons;
+mod table;
+
+use std::{env, fs};
+use table::Table;
+
+fn main(rt: HostRuntime) -> Result<(), anyhow::Error> {
+    for name in env::args(&rt)?.skip(1) {
+        let text = fs::read_to_string(&rt, name.as_str())?;
+        let mut table = Table::new(rt.alloc())?;
+        let mut number: u64 = 0;
+        for line in text.as_str().lines() {
+            number = number.saturating_add(1);
+            if !table.holds(rt.alloc(), line)? {
+                println!(rt; "{name}: line {number} does not hold")?;
+            }
+        }
+        println!(rt; "{name}: {} lines hold", table.held())?;
+    }
+    Ok(())
+}

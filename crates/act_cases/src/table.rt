@@ -1,0 +1,92 @@
+use crate::devices::{id_of, read_act};
+use crate::facts::is_so;
+use crate::reasons::word_of;
+use acts::Entry;
+use std::alloc::Global;
+use team_reducer::{TeamState, apply, permits};
+use tg_outside::{Silent, Steps};
+use tg_text::{Items, KeyLines, Memory, UserName};
+
+/// The state that the lines of a table made so far, and how many of them held.
+#[derive(Drop)]
+pub struct Table {
+    state: TeamState,
+    held: u64,
+}
+
+impl Table {
+    pub fn new(alloc: Global) -> Result<Table, Memory> {
+        Ok(Table {
+            state: TeamState::new(alloc)?,
+            held: 0,
+        })
+    }
+
+    /// How many lines held.
+    pub fn held(&self) -> u64 {
+        self.held
+    }
+
+    /// Whether a line holds.
+    pub fn holds(&mut self, alloc: Global, line: &str) -> Result<bool, Memory> {
+        if line.is_empty() || line.starts_with('#') {
+            return Ok(true);
+        }
+        let holds = self.is_right(alloc, line)?;
+        if holds {
+            self.held = self.held.saturating_add(1);
+        }
+        Ok(holds)
+    }
+
+    fn is_right(&mut self, alloc: Global, line: &str) -> Result<bool, Memory> {
+        if line == "new" {
+            self.state = TeamState::new(alloc)?;
+            return Ok(true);
+        }
+        let Some((word, rest)) = line.split_once(' ') else {
+            return Ok(false);
+        };
+        match word {
+            "has" => Ok(is_so(&self.state, rest)),
+            "lacks" => Ok(!is_so(&self.state, rest)),
+            _ => self.takes(alloc, word, rest),
+        }
+    }
+
+    // Whether the entry is permitted or refused as the word says, by both calls.
+    fn takes(&mut self, alloc: Global, word: &str, text: &str) -> Result<bool, Memory> {
+        let Some(entry) = read_entry(alloc, text)? else {
+            return Ok(false);
+        };
+        let asked = permits(&self.state, &entry).err();
+        let mut steps = Steps::new(Silent);
+        let done = apply(alloc, &mut self.state, &entry, &mut steps)?;
+        Ok(word_of(asked) == word && word_of(done) == word)
+    }
+}
+
+fn read_entry(alloc: Global, text: &str) -> Result<Option<Entry>, Memory> {
+    let Some((user, rest)) = text.split_once(' ') else {
+        return Ok(None);
+    };
+    let Some((device, act)) = rest.split_once(' ') else {
+        return Ok(None);
+    };
+    let Some(user) = UserName::read(user.as_bytes()) else {
+        return Ok(None);
+    };
+    let Some(act) = read_act(alloc, act)? else {
+        return Ok(None);
+    };
+    Ok(Some(Entry {
+        user,
+        device: id_of(device),
+        time: 0,
+        act,
+        lines: KeyLines {
+            news: Items::new(alloc),
+            boxes: Items::new(alloc),
+        },
+    }))
+}
