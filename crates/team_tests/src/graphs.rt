@@ -124,8 +124,8 @@ fn replica_refuses(alloc: Global, replica: &mut Replica, text: &[u8], fault: Tak
 fn are_empty(graph: &Graph, replica: &Replica) -> bool {
     graph.held() == 0
         && graph.file_bytes() == 77
-        && replica.view().held == 0
-        && replica.view().state.is_empty()
+        && replica.graph().held() == 0
+        && replica.state().is_empty()
 }
 
 // What is refused leaves a graph and a replica as they were.

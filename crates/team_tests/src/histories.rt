@@ -18,7 +18,8 @@ fn shown(alloc: Global, history: &History, order: &[usize]) -> Option<(Bytes, u3
             .ok()?;
     }
     let text = show_text(alloc, &replica).ok()?;
-    Some((text, replica.view().waiting))
+    let graph = replica.graph();
+    Some((text, graph.held().saturating_sub(graph.connected())))
 }
 
 // Histories of 2 to 60 links, each with one left out, on which others wait: forwards, backwards and shuffled.
