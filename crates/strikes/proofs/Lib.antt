@@ -1,0 +1,4 @@
+mod Noting
+mod PlaceOrder
+mod RemovalRanks
+mod Removals

@@ -1,0 +1,5 @@
+use Rattle.strikes.proofs.Removals.{seen-kept}
+use Rattle.strikes.proofs.laws.seen_is_kept.Goals as goal
+
+pub returns : goal.returns
+returns c = λ rules links x s h is. seen-kept rules links x s h is
