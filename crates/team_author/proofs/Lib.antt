@@ -1,0 +1,5 @@
+pub mod Drafts
+pub mod Heads
+pub mod Plans
+pub mod Rooms
+pub mod Sizes
