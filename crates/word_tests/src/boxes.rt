@@ -4,7 +4,7 @@ ghost use Rattle.std.specs.Prelude.{◌≡◌, Some, IfOk};
 use lockboxes::{Sealer, SymbolicKeeper};
 use std::alloc::Global;
 use std::test::Fail;
-use tg_text::{Memory, read_hex32};
+use tg_text::{Bytes, Memory, read_hex32};
 
 const KEY: [u8; 32] = [0x33; 32];
 
@@ -26,30 +26,51 @@ fn seal_and_unseal<K: Sealer>(
     Ok(sealer.unseal(sealed.as_slice(), key))
 }
 
+// Whether the box is the key's public half and then the secret.
+fn is_box(sealed: &[u8], public: &[u8; 32]) -> bool {
+    if sealed.len() != 64 {
+        return false;
+    }
+    let (front, rest) = sealed.split_at(32);
+    front == public.as_slice() && rest == SECRET.as_slice()
+}
+
+fn is_shut(sealed: &Bytes, key: &[u8; 32]) -> bool {
+    SymbolicKeeper.unseal(sealed.as_slice(), key).is_none()
+}
+
+// Whether the box is shut with a byte more, and cut to these lengths.
+fn are_shut(sealed: &mut Bytes, lengths: &[usize]) -> Result<bool, Memory> {
+    sealed.append(b"\n")?;
+    let mut are_shut = is_shut(sealed, &KEY);
+    for len in lengths {
+        sealed.truncate(*len);
+        are_shut = are_shut && is_shut(sealed, &KEY);
+    }
+    Ok(are_shut)
+}
+
 #[test]
 fn a_box_is_opened_by_its_key_alone(rt: HostRuntime) -> Result<(), Fail> {
     let public = read_hex32(PUBLIC.as_bytes()).ok_or("no public key")?;
-    assert_eq!(rt; SymbolicKeeper.public_of(&KEY), public);
+    let sealed = SymbolicKeeper.seal(rt.alloc(), &SECRET, &public)?;
+    assert!(rt; SymbolicKeeper.public_of(&KEY) == public && is_box(sealed.as_slice(), &public));
+    assert!(rt; SymbolicKeeper.unseal(sealed.as_slice(), &KEY) == Some(SECRET));
+    assert!(rt; is_shut(&sealed, &SECRET));
+    Ok(())
+}
+
+#[test]
+fn a_box_of_another_length_is_shut(rt: HostRuntime) -> Result<(), Fail> {
+    let public = SymbolicKeeper.public_of(&KEY);
     let mut sealed = SymbolicKeeper.seal(rt.alloc(), &SECRET, &public)?;
-    assert_eq!(rt; sealed.len(), 64);
-    assert_eq!(rt; sealed.as_slice().split_at(32).0, public.as_slice());
-    assert_eq!(rt; sealed.as_slice().split_at(32).1, SECRET.as_slice());
-    assert_eq!(rt;
-        SymbolicKeeper.unseal(sealed.as_slice(), &KEY),
-        Some(SECRET)
-    );
-    assert_eq!(rt; SymbolicKeeper.unseal(sealed.as_slice(), &SECRET), None);
-    sealed.append(b"\n")?;
-    assert_eq!(rt; SymbolicKeeper.unseal(sealed.as_slice(), &KEY), None);
-    for len in [63, 32, 0] {
-        sealed.truncate(len);
-        assert_eq!(rt;
-            SymbolicKeeper.unseal(sealed.as_slice(), &KEY),
-            None,
-            "at {len}"
-        );
-    }
+    assert!(rt; are_shut(&mut sealed, &[63, 32, 0])?);
+    Ok(())
+}
+
+#[test]
+fn what_was_sealed_is_unsealed(rt: HostRuntime) -> Result<(), Fail> {
     let found = seal_and_unseal(&SymbolicKeeper, rt.alloc(), &SECRET, &KEY)?;
-    assert_eq!(rt; found, Some(SECRET));
+    assert!(rt; found == Some(SECRET));
     Ok(())
 }

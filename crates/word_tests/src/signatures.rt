@@ -3,31 +3,51 @@ use lms_ots::{OtsKind, ots_candidate, ots_public, ots_random, ots_secret, ots_si
 use lms_tree::Tree;
 use std::test::Fail;
 
-#[test]
-fn a_one_time_signature_is_of_its_message(rt: HostRuntime) {
-    let (kind, id, seed) = (OtsKind::W8, [1; 16], [2; 32]);
+const ID: [u8; 16] = [1; 16];
+
+const SEED: [u8; 32] = [2; 32];
+
+// The signature of `hello`.
+fn signature() -> [u8; 1124] {
     let mut secrets = [[0; 32]; 34];
     for i in 0..34u16 {
-        secrets[i as usize] = ots_secret(&id, 0, i, &seed);
+        secrets[i as usize] = ots_secret(&ID, 0, i, &SEED);
     }
+    let random = ots_random(&ID, 0, &SEED);
     let mut signature = [0; 1124];
     ots_sign(
-        kind,
-        &id,
+        OtsKind::W8,
+        &ID,
         0,
         &secrets,
-        &ots_random(&id, 0, &seed),
+        &random,
         b"hello",
         &mut signature,
     );
-    let key = ots_candidate(kind, &id, 0, b"hello", &signature);
-    assert_eq!(rt; key, Some(ots_public(kind, &id, 0, &seed)));
-    assert_ne!(rt; key, ots_candidate(kind, &id, 0, b"hullo", &signature));
-    assert_eq!(rt; ots_candidate(kind, &id, 0, b"hello", &[0; 1123]), None);
-    assert_eq!(rt;
-        ots_candidate(OtsKind::W4, &id, 0, b"hello", &signature),
-        None
+    signature
+}
+
+// Whether it is one of this message, of this kind.
+fn is_of(kind: OtsKind, message: &[u8], signature: &[u8]) -> bool {
+    ots_candidate(kind, &ID, 0, message, signature) == Some(ots_public(kind, &ID, 0, &SEED))
+}
+
+fn has_no_form(kind: OtsKind, signature: &[u8]) -> bool {
+    ots_candidate(kind, &ID, 0, b"hello", signature).is_none()
+}
+
+#[test]
+fn a_one_time_signature_is_of_its_message(rt: HostRuntime) {
+    let signature = signature();
+    assert!(rt;
+        is_of(OtsKind::W8, b"hello", &signature) && !is_of(OtsKind::W8, b"hullo", &signature)
     );
+    assert!(rt; has_no_form(OtsKind::W8, &[0; 1123]) && has_no_form(OtsKind::W4, &signature));
+}
+
+// Whether the signature of the first leaf ends with its path.
+fn ends_with_path(path: &[[u8; 32]], signature: &[u8]) -> bool {
+    path.len() == 5 && signature.len() == 2348 && path.as_flattened() == signature.split_at(2188).1
 }
 
 #[test]
@@ -36,11 +56,6 @@ fn path_ends_a_signature(rt: HostRuntime) -> Result<(), Fail> {
     let tree = Tree::make(alloc, 5, 3, &[0x11; 16], &[0x22; 32])?;
     let path = tree.path(alloc, 0)?;
     let signature = tree.sign(alloc, 0, b"any")?;
-    assert_eq!(rt; path.len(), 5);
-    assert_eq!(rt; signature.len(), 2348);
-    assert_eq!(rt;
-        path.as_slice().as_flattened(),
-        signature.as_slice().split_at(2188).1
-    );
+    assert!(rt; ends_with_path(path.as_slice(), signature.as_slice()));
     Ok(())
 }

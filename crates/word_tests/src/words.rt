@@ -1,5 +1,6 @@
 //! What the texts of scopes and acts mean, the order of scopes and keys, and the small types.
 use acts::Act;
+use std::alloc::Global;
 use std::test::Fail;
 use tg_text::{
     Bytes, DeviceId, Items, KeyId, LinkName, Memory, RoleName, Scope, Title, UserName, Word,
@@ -7,6 +8,10 @@ use tg_text::{
 };
 
 const HASH: &str = "deb0e38ced1e41de6f92e70e80c418d2d356afaaa99e26f5939dbc7d3ef4772a";
+
+fn is_scope(text: &str, scope: Scope) -> bool {
+    Scope::read(text.as_bytes()) == Some(scope)
+}
 
 #[test]
 fn scopes_have_a_kind_and_a_name(rt: HostRuntime) -> Result<(), Fail> {
@@ -23,67 +28,65 @@ fn scopes_have_a_kind_and_a_name(rt: HostRuntime) -> Result<(), Fail> {
             Scope::Device(DeviceId(id)),
         ),
     ] {
-        assert_eq!(rt; Scope::read(text.as_bytes()), Some(scope), "at {text}");
+        assert!(rt; is_scope(text, scope), "at {text}");
     }
     Ok(())
+}
+
+fn is_act(alloc: Global, text: &str, act: Act) -> Result<bool, Memory> {
+    Ok(Act::read(alloc, text.as_bytes())? == Some(act))
 }
 
 #[test]
 fn words_and_fields_make_the_act(rt: HostRuntime) -> Result<(), Fail> {
+    let alloc = rt.alloc();
     let user = UserName::read(b"bo").ok_or("no user")?;
     let role = RoleName::read(b"editor").ok_or("no role")?;
     let title = Title::read(b"Low tide").ok_or("no title")?;
     let scope = Scope::User(user);
-    for (text, act) in [
-        ("give_role bo editor", Act::GiveRole { user, role }),
-        ("title Low tide", Act::Title { title }),
-        ("rotate user:bo", Act::Rotate { scope }),
-    ] {
-        let found = Act::read(rt.alloc(), text.as_bytes())?;
-        assert_eq!(rt; found, Some(act), "at {text}");
-    }
+    assert!(rt; is_act(alloc, "give_role bo editor", Act::GiveRole { user, role })?);
+    assert!(rt; is_act(alloc, "title Low tide", Act::Title { title })?);
+    assert!(rt; is_act(alloc, "rotate user:bo", Act::Rotate { scope })?);
     Ok(())
 }
 
 #[test]
-fn scopes_and_keys_are_ordered(rt: HostRuntime) -> Result<(), Fail> {
-    let ann = UserName::read(b"ann").ok_or("no name")?;
-    let bo = UserName::read(b"bo").ok_or("no name")?;
+fn scopes_are_ordered(rt: HostRuntime) -> Result<(), Fail> {
+    let ann = Scope::User(UserName::read(b"ann").ok_or("no name")?);
+    let bo = Scope::User(UserName::read(b"bo").ok_or("no name")?);
     let device = Scope::Device(DeviceId([0; 32]));
-    for (lower, higher) in [
-        (Scope::Team, Scope::User(ann)),
-        (Scope::User(ann), Scope::User(bo)),
-        (Scope::User(bo), device),
-    ] {
-        assert!(rt; lower < higher);
-    }
-    for (lower, higher) in [((1, 9), (2, 0)), ((2, 0), (2, 1))] {
-        assert!(rt; key_of(&device, lower) < key_of(&device, higher));
-    }
+    assert!(rt; Scope::Team < ann && ann < bo && bo < device);
     Ok(())
 }
 
-// A key of the scope, of a generation and a public half of one byte.
-fn key_of(scope: &Scope, (generation, byte): (u16, u8)) -> KeyId {
+// A key of a device, of a generation and a public half of one byte.
+fn key_of(generation: u16, byte: u8) -> KeyId {
     KeyId {
-        scope: *scope,
+        scope: Scope::Device(DeviceId([0; 32])),
         generation,
         public: [byte; 32],
     }
 }
 
 #[test]
-fn lists_and_words_keep_what_they_get(rt: HostRuntime) -> Result<(), Fail> {
-    let mut names = Items::new(rt.alloc());
+fn keys_are_ordered(rt: HostRuntime) {
+    assert!(rt; key_of(1, 9) < key_of(2, 0) && key_of(2, 0) < key_of(2, 1));
+}
+
+// Whether a list and a word are what they got.
+fn are_kept(alloc: Global) -> Result<bool, Memory> {
+    let mut names = Items::new(alloc);
     names.push(LinkName([7; 32]))?;
-    assert_eq!(rt; names.as_slice(), [LinkName([7; 32])].as_slice());
-    let word = Word::new(rt.alloc(), "title")?;
-    assert_eq!(rt; word.as_str(), "title");
-    let copy = Bytes::from_slice(rt.alloc(), b"ab")?.copy(rt.alloc())?;
-    assert!(rt; copy < Bytes::from_slice(rt.alloc(), b"abc")?);
-    assert_eq!(rt;
-        format!(in rt.alloc(); "{}", Memory)?.as_str(),
-        "out of memory"
-    );
+    let word = Word::new(alloc, "title")?;
+    Ok(names.as_slice() == [LinkName([7; 32])].as_slice() && word.as_str() == "title")
+}
+
+#[test]
+fn lists_and_words_keep_what_they_get(rt: HostRuntime) -> Result<(), Fail> {
+    let alloc = rt.alloc();
+    assert!(rt; are_kept(alloc)?);
+    let copy = Bytes::from_slice(alloc, b"ab")?.copy(alloc)?;
+    assert!(rt; copy < Bytes::from_slice(alloc, b"abc")?);
+    assert!(rt; format!(in alloc; "{}", Memory)?.as_str() == "out of memory");
     Ok(())
 }
