@@ -3,22 +3,27 @@ use acts::{Act, device_of};
 use std::alloc::Global;
 use tg_text::{Bytes, DeviceId, Memory, PublicKey, write_base64, write_hex};
 
-/// The key of a device: its types, and then the name's bytes.
-fn key_of(name: &str) -> PublicKey {
+/// The key of a device: its types, and then the name's bytes. A name is a word of 1 to 48 bytes.
+fn key_of(name: &str) -> Option<PublicKey> {
+    let name = name.as_bytes();
+    if name.is_empty() || name.contains(&b' ') {
+        return None;
+    }
     let mut key = [0; 56];
     key[3] = 5;
     key[7] = 3;
-    for (i, byte) in name.as_bytes().iter().enumerate() {
-        if i < 48 {
-            key[8 + i] = *byte;
+    for (place, byte) in name.iter().enumerate() {
+        if place >= 48 {
+            return None;
         }
+        key[8 + place] = *byte;
     }
-    PublicKey(key)
+    Some(PublicKey(key))
 }
 
 /// The id of the device with this name.
-pub fn id_of(name: &str) -> DeviceId {
-    device_of(&key_of(name))
+pub fn id_of(name: &str) -> Option<DeviceId> {
+    Some(device_of(&key_of(name)?))
 }
 
 /// The act that a text spells, in which devices stand by their names.
@@ -28,17 +33,27 @@ pub fn read_act(alloc: Global, text: &str) -> Result<Option<Act>, Memory> {
         if !spelled.as_slice().is_empty() {
             spelled.append(b" ")?;
         }
-        append_word(&mut spelled, word)?;
+        if !append_word(&mut spelled, word)? {
+            return Ok(None);
+        }
     }
     Act::read(alloc, spelled.as_slice())
 }
 
-fn append_word(spelled: &mut Bytes, word: &str) -> Result<(), Memory> {
+// Whether the word is one, and no device without a name.
+fn append_word(spelled: &mut Bytes, word: &str) -> Result<bool, Memory> {
     if let Some(name) = word.strip_prefix('@') {
-        return write_base64(spelled, key_of(name).as_slice());
+        let Some(key) = key_of(name) else {
+            return Ok(false);
+        };
+        write_base64(spelled, key.as_slice())?;
+    } else if let Some(name) = word.strip_prefix('%') {
+        let Some(id) = id_of(name) else {
+            return Ok(false);
+        };
+        write_hex(spelled, id.as_slice())?;
+    } else {
+        spelled.append(word.as_bytes())?;
     }
-    if let Some(name) = word.strip_prefix('%') {
-        return write_hex(spelled, id_of(name).as_slice());
-    }
-    spelled.append(word.as_bytes())
+    Ok(true)
 }

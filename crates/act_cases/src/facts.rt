@@ -8,78 +8,64 @@
 //!     row NAME               a device that was ever listed
 use crate::devices::id_of;
 use team_reducer::TeamState;
-use team_state::Member;
-use tg_text::{RoleName, UserName};
+use tg_text::{RoleName, Title, UserName};
 
-/// Whether a fact is so.
-pub fn is_so(state: &TeamState, fact: &str) -> bool {
-    let (kind, rest) = match fact.split_once(' ') {
-        Some(parts) => parts,
-        None => (fact, ""),
-    };
+/// Whether a fact is so; `None` where the text is no fact.
+pub fn is_so(state: &TeamState, fact: &str) -> Option<bool> {
+    let (kind, rest) = fact.split_once(' ')?;
     match kind {
         "title" => has_title(state, rest),
         "member" => has_member(state, rest),
         "user" => has_user(state, rest),
         "role" => has_role(state, rest),
         "device" => has_device(state, rest),
-        "row" => state.was_listed(&id_of(rest)),
-        _ => false,
+        "row" => Some(state.was_listed(&id_of(rest)?)),
+        _ => None,
     }
 }
 
-fn has_title(state: &TeamState, title: &str) -> bool {
+fn has_title(state: &TeamState, title: &str) -> Option<bool> {
+    let title = Title::read(title.as_bytes())?;
     match state.title() {
-        Some(it) => it.as_slice() == title.as_bytes(),
-        None => false,
+        Some(held) => Some(held.as_slice() == title.as_slice()),
+        None => Some(false),
     }
 }
 
-fn has_user(state: &TeamState, user: &str) -> bool {
-    match UserName::read(user.as_bytes()) {
-        Some(user) => state.lists_user(&user),
-        None => false,
-    }
+fn has_user(state: &TeamState, user: &str) -> Option<bool> {
+    let user = UserName::read(user.as_bytes())?;
+    Some(state.lists_user(&user))
 }
 
-fn has_member(state: &TeamState, words: &str) -> bool {
-    let mut words = words.split(' ');
-    let Some(user) = UserName::read(words.next().unwrap_or("").as_bytes()) else {
-        return false;
-    };
-    let Some(member) = state.member(&user) else {
-        return false;
-    };
+fn has_member(state: &TeamState, words: &str) -> Option<bool> {
+    let (user, words) = words.split_once(' ').unwrap_or((words, ""));
+    let user = UserName::read(user.as_bytes())?;
+    let has_roles = are_roles(state.roles_of(&user), words)?;
+    Some(has_roles && state.lists_user(&user))
+}
+
+// Whether the words, a space apart, are these roles in this order.
+fn are_roles(roles: &[RoleName], words: &str) -> Option<bool> {
+    if words.is_empty() {
+        return Some(roles.is_empty());
+    }
+    let mut are_same = true;
     let mut count: usize = 0;
-    for word in words {
-        if !is_role_at(member, count, word) {
-            return false;
-        }
+    for word in words.split(' ') {
+        let role = RoleName::read(word.as_bytes())?;
+        are_same = are_same && roles.get(count) == Some(&role);
         count = count.saturating_add(1);
     }
-    count == member.roles.as_slice().len()
+    Some(are_same && count == roles.len())
 }
 
-fn is_role_at(member: &Member, place: usize, word: &str) -> bool {
-    match member.roles.as_slice().get(place) {
-        Some(role) => role.as_slice() == word.as_bytes(),
-        None => false,
-    }
+fn has_role(state: &TeamState, role: &str) -> Option<bool> {
+    let role = RoleName::read(role.as_bytes())?;
+    Some(state.lists_role(&role))
 }
 
-fn has_role(state: &TeamState, role: &str) -> bool {
-    match RoleName::read(role.as_bytes()) {
-        Some(role) => state.lists_role(&role),
-        None => false,
-    }
-}
-
-fn has_device(state: &TeamState, words: &str) -> bool {
-    let Some((user, name)) = words.split_once(' ') else {
-        return false;
-    };
-    match UserName::read(user.as_bytes()) {
-        Some(user) => state.lists(&user, &id_of(name)),
-        None => false,
-    }
+fn has_device(state: &TeamState, words: &str) -> Option<bool> {
+    let (user, name) = words.split_once(' ')?;
+    let user = UserName::read(user.as_bytes())?;
+    Some(state.lists(&user, &id_of(name)?))
 }

@@ -1,5 +1,6 @@
 use crate::devices::{id_of, read_act};
 use crate::facts::is_so;
+use crate::numbering::{numbered, read_each};
 use crate::reasons::word_of;
 use acts::Entry;
 use std::alloc::Global;
@@ -32,9 +33,24 @@ impl Table {
         if line.is_empty() || line.starts_with('#') {
             return Ok(true);
         }
-        let holds = self.is_right(alloc, line)?;
+        let holds = match line.strip_prefix("each ") {
+            Some(rest) => self.each_is_right(alloc, rest)?,
+            None => self.is_right(alloc, line)?,
+        };
         if holds {
             self.held = self.held.saturating_add(1);
+        }
+        Ok(holds)
+    }
+
+    fn each_is_right(&mut self, alloc: Global, text: &str) -> Result<bool, Memory> {
+        let Some((first, end, line)) = read_each(text) else {
+            return Ok(false);
+        };
+        let mut holds = true;
+        for number in first..end {
+            let text = numbered(alloc, line, number)?;
+            holds = self.is_right(alloc, text.as_str())? && holds;
         }
         Ok(holds)
     }
@@ -48,22 +64,32 @@ impl Table {
             return Ok(false);
         };
         match word {
-            "has" => Ok(is_so(&self.state, rest)),
-            "lacks" => Ok(!is_so(&self.state, rest)),
+            "has" => Ok(is_so(&self.state, rest) == Some(true)),
+            "lacks" => Ok(is_so(&self.state, rest) == Some(false)),
             _ => self.takes(alloc, word, rest),
         }
     }
 
-    // Whether the entry is permitted or refused as the word says, by both calls.
+    // Whether the entry is permitted or refused as the word says, by both calls, and one that is refused changes nothing.
     fn takes(&mut self, alloc: Global, word: &str, text: &str) -> Result<bool, Memory> {
         let Some(entry) = read_entry(alloc, text)? else {
             return Ok(false);
         };
+        let before = self.state.copy()?;
         let asked = permits(&self.state, &entry).err();
         let mut steps = Steps::new(Silent);
         let done = apply(alloc, &mut self.state, &entry, &mut steps)?;
-        Ok(word_of(asked) == word && word_of(done) == word)
+        let is_kept = done.is_none() || are_same(&before, &self.state);
+        Ok(is_kept && word_of(asked) == word && word_of(done) == word)
     }
+}
+
+// Whether two states have the same title, and the same rows of the tables that acts write.
+fn are_same(one: &TeamState, other: &TeamState) -> bool {
+    one.title() == other.title()
+        && one.members() == other.members()
+        && one.roles() == other.roles()
+        && one.devices() == other.devices()
 }
 
 fn read_entry(alloc: Global, text: &str) -> Result<Option<Entry>, Memory> {
@@ -73,7 +99,7 @@ fn read_entry(alloc: Global, text: &str) -> Result<Option<Entry>, Memory> {
     let Some((device, act)) = rest.split_once(' ') else {
         return Ok(None);
     };
-    let Some(user) = UserName::read(user.as_bytes()) else {
+    let (Some(user), Some(device)) = (UserName::read(user.as_bytes()), id_of(device)) else {
         return Ok(None);
     };
     let Some(act) = read_act(alloc, act)? else {
@@ -81,7 +107,7 @@ fn read_entry(alloc: Global, text: &str) -> Result<Option<Entry>, Memory> {
     };
     Ok(Some(Entry {
         user,
-        device: id_of(device),
+        device,
         time: 0,
         act,
         lines: KeyLines {
