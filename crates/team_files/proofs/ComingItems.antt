@@ -2,6 +2,7 @@
 use Rattle.std.proofs.Common.{◌≡◌, ℕ, ◌+◌, ◌-◌, ◌<◌, ◌≤◌, inl, inr, Bool, true, false, List, [], ◌∷◌, ◌++◌, length, take, refl, sym, ap, ◌∙◌, subst, append_assoc, append-nil, length-append, true≢false, arith}
 use Rattle.std.specs.List.{concat}
 use Rattle.std.proofs.Math.Seq.{take-append-add}
+use Rattle.tg_text.specs.Limits.{most_file_bytes}
 use Rattle.team_files.specs.declared.item.Item.{Item}
 use Rattle.team_files.specs.declared.item.Item.TheVariants.{Cut, BadFrame, Long}
 use Rattle.team_files.specs.Bundles.{IsBad, IsBundle, IsFront, IsItems, IsJudged}
@@ -154,7 +155,7 @@ ends_cut s going front some =
 -- one piece and its end
 pub one_piece : (bytes : List ℕ) (items last : List Item) (new : Pending) → Answers started bytes items new → IsComing new [] last → IsBundle bytes (items ++ last)
 one_piece bytes items last new answers end_ =
-    subst (λ l. IsJudged 268435456 [] l (items ++ last)) (append-nil bytes) ((answers.all [] (items ++ last)).1 (last, refl, end_))
+    subst (λ l. IsJudged most_file_bytes [] l (items ++ last)) (append-nil bytes) ((answers.all [] (items ++ last)).1 (last, refl, end_))
 
 run_over : (old : Pending) (pieces : List (List ℕ)) (answers : List (List Item)) (new : Pending) (last : List Item)
     → IsRunOver old pieces answers new → IsComing new [] last → IsComing old (concat pieces) (joined answers ++ last)

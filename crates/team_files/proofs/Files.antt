@@ -2,6 +2,7 @@
 use Rattle.std.proofs.Common.{◌≡◌, ℕ, ◌+◌, ◌≤◌, Bool, true, false, cond, List, [], ◌∷◌, ◌++◌, length, map, fold, refl, sym, ap, ◌∙◌, subst, arith}
 use Rattle.std.specs.List.{AllByRecursion}
 use Rattle.tg_text.specs.Spelling.{IsHash}
+use Rattle.tg_text.specs.Limits.{most_file_bytes}
 use Rattle.team_sets.specs.Names.{Name, put_in, ascending}
 use Rattle.team_sets.specs.SortedLaws.{IsAscending, by_names}
 use Rattle.team_sets.proofs.Pasts.{all_at}
@@ -64,7 +65,7 @@ in_order t links held =
 pub by_name-stays : (t : Name) (links : List Link) → AreInOrder t links → by_name links ≡ links
 by_name-stays t links are = ascending-stays (by_names name_of) (names-strict name_of) links (to_ascending links are.ascend)
 
-pub file_of : (bytes t rest : List ℕ) (links : List Link) → IsHash t → bytes ≡ header t ++ rest → rest ≡ frames links → AreInOrder t links → length bytes ≤ 268435456
+pub file_of : (bytes t rest : List ℕ) (links : List Link) → IsHash t → bytes ≡ header t ++ rest → rest ≡ frames links → AreInOrder t links → length bytes ≤ most_file_bytes
     → IsFileOf bytes t links
 file_of bytes t rest links is e f are short =
     let whole : bytes ≡ file_text t links = e ∙ ap (λ r. header t ++ r) (f ∙ ap frames (sym (by_name-stays t links are))) in
@@ -74,7 +75,7 @@ file_of bytes t rest links is e f are short =
         valid = are.valid;
         set = set-ascending name_of links (to_ascending links are.ascend);
         few = are.few;
-        short = subst (λ b. length b ≤ 268435456) whole short;
+        short = subst (λ b. length b ≤ most_file_bytes) whole short;
       };
       is_text = whole;
     }

@@ -1,6 +1,7 @@
 -- A link that may follow those of a graph is new there, and there is room for it.
 use Rattle.std.proofs.Common.{◌≡◌, ◌≤◌, ◌+◌, ℕ, false, List, [], ◌∷◌, ◌++◌, length, length-append, map, refl, sym, ap, ◌∙◌, subst, arith}
 use Rattle.std.specs.List.{AllByRecursion, IsDistinct}
+use Rattle.tg_text.specs.Limits.{most_file_bytes}
 use Rattle.team_sets.specs.Names.{Name, has_name, same_name}
 use Rattle.team_sets.specs.Order.{names}
 use Rattle.team_sets.specs.OrderLaws.{IsSet}
@@ -32,7 +33,7 @@ module _ (t : Name) (links : List Link) (l : Link) (bytes : List ℕ) (are : Are
   pub next_fresh : IsFresh links l
   next_fresh = fresh_set links l (set-ascending name_of (links ++ l ∷ []) (to_ascending (links ++ l ∷ []) next_in_order.ascend))
 
-  pub next_space : length (header t) + length (frames links) + length (frame bytes) ≤ 268435456 → HasSpace t links l
+  pub next_space : length (header t) + length (frames links) + length (frame bytes) ≤ most_file_bytes → HasSpace t links l
   next_space short =
       let whole : file_text t (links ++ l ∷ []) ≡ header t ++ (frames links ++ frame bytes) =
       ap (λ (ls : List Link). header t ++ frames ls) (by_name-stays t (links ++ l ∷ []) next_in_order)
@@ -42,13 +43,13 @@ module _ (t : Name) (links : List Link) (l : Link) (bytes : List ℕ) (are : Are
       record { few = may.room; short = omega (arith, size, short) }
 
 -- what was read, with the next frame, is a front of the bytes
-pub front_short : (head : ℕ) (bytes front rest own after : List ℕ) → head + length bytes ≤ 268435456 → bytes ≡ front ++ rest → rest ≡ own ++ after
-    → head + length front + length own ≤ 268435456
+pub front_short : (head : ℕ) (bytes front rest own after : List ℕ) → head + length bytes ≤ most_file_bytes → bytes ≡ front ++ rest → rest ≡ own ++ after
+    → head + length front + length own ≤ most_file_bytes
 front_short head bytes front rest own after short e f =
     let all = ap (λ b. length b) e ∙ length-append front rest in
     let left = ap (λ b. length b) f ∙ length-append own after in
     omega (arith, all, left, short)
 
 -- the frames are within the limit, with the header
-pub rest_short : (bytes head rest : List ℕ) → bytes ≡ head ++ rest → length bytes ≤ 268435456 → length head + length rest ≤ 268435456
+pub rest_short : (bytes head rest : List ℕ) → bytes ≡ head ++ rest → length bytes ≤ most_file_bytes → length head + length rest ≤ most_file_bytes
 rest_short bytes head rest e short = let all = ap (λ b. length b) e ∙ length-append head rest in omega (arith, all, short)

@@ -9,4 +9,5 @@ pub mod Joining
 pub mod Lines
 pub mod Named
 pub mod Once
+pub mod Places
 pub mod Runs

@@ -1,6 +1,9 @@
 -- Links in ascending order of names, one more at the end, and the frames that spell them.
-use Rattle.std.proofs.Common.{◌≡◌, ◌↔◌, Bool, ℕ, ◌<◌, ◌≤◌, ◌^◌, ◌-◌, List, [], ◌∷◌, ◌++◌, length, map, get_or, IsTrue, Result, Err, refl, sym, ap, ◌∙◌, subst, append_assoc, append-nil, length-append, arith}
+use Rattle.std.proofs.Common.{◌≡◌, ◌↔◌, Bool, true, nat_lt, ℕ, ◌<◌, ◌≤◌, ◌^◌, ◌-◌, List, [], ◌∷◌, ◌++◌, length, map, get_or, IsTrue, Some, Result, Err, refl, sym, ap, ◌∙◌, subst, append_assoc, append-nil, length-append, arith}
 use Rattle.std.specs.List.{AllByRecursion}
+use Rattle.std.specs.Option.{option_map_or}
+use Rattle.std.proofs.lemmas.Bool.{and_from, and_parts, lt-ltb, ltb-true}
+use Rattle.tg_text.specs.Limits.{most_links}
 use Rattle.std.proofs.lemmas.Grind.{flat_map-append}
 use Rattle.team_sets.specs.Names.{Name, name_lt}
 use Rattle.team_model.specs.Judging.{name_of}
@@ -11,16 +14,22 @@ use Rattle.std.specs.Result.{IsErrAnd}
 use Rattle.std.proofs.lemmas.Result.{err_from_is_err_and}
 use Rattle.team_files.specs.declared.fault.FileFault.{FileFault}
 use Rattle.team_files.specs.declared.fault.FileFault.TheVariants.{BadFile, Memory}
-use Rattle.team_files.specs.Frames.{frames, IsBefore, MayFollow, AreInOrder, Gives}
+use Rattle.team_files.specs.Frames.{frames, last_name, may_stand, IsBefore, MayFollow, AreInOrder, Gives}
 
--- the last of the links decides
-last_forth : (x : Link) (xs : List Link) (n : Name) (d : Link) → IsBefore (x ∷ xs) n → IsTrue (name_lt (get_or (x ∷ xs) (length xs) d).name n)
-last_forth x [] n d h = h
-last_forth x (y ∷ ys) n d h = last_forth y ys n d h
+last_there : (x : Link) (xs : List Link) (d : Link) → Some (get_or (x ∷ xs) (length xs) d).name ≡ last_name (x ∷ xs)
+last_there x [] d = refl
+last_there x (y ∷ ys) d = last_there y ys d
 
-last_back : (x : Link) (xs : List Link) (n : Name) (d : Link) → IsTrue (name_lt (get_or (x ∷ xs) (length xs) d).name n) → IsBefore (x ∷ xs) n
-last_back x [] n d h = h
-last_back x (y ∷ ys) n d h = last_back y ys n d h
+pub last_at : (links : List Link) (x : Link) → 1 ≤ length links → x ≡ get_or links (length links - 1) x → Some x.name ≡ last_name links
+last_at [] x some is = absurd (omega arith)
+last_at (y ∷ ys) x some is =
+    let at : x ≡ get_or (y ∷ ys) (length ys) x = is ∙ ap (λ i. get_or (y ∷ ys) i x) (let k : length (y ∷ ys) - 1 ≡ length ys = omega arith in k) in
+    ap (λ (z : Link). Some z.name) at ∙ last_there y ys x
+
+pub last_more : (links : List Link) (l : Link) → last_name (links ++ l ∷ []) ≡ Some l.name
+last_more [] l = refl
+last_more (x ∷ []) l = refl
+last_more (x ∷ y ∷ ys) l = last_more (y ∷ ys) l
 
 ascends_more : (links : List Link) (l : Link) → Ascends (map name_of links) → IsBefore links l.name → Ascends (map name_of (links ++ l ∷ []))
 ascends_more [] l a b = tt
@@ -28,7 +37,7 @@ ascends_more (x ∷ []) l a b = (b, tt)
 ascends_more (x ∷ y ∷ ys) l a b = (a.0, ascends_more (y ∷ ys) l a.1 b)
 
 ascends_front : (links : List Link) (l : Link) (more : List Link) → Ascends (map name_of (links ++ l ∷ more)) → IsBefore links l.name
-ascends_front [] l more a = tt
+ascends_front [] l more a = refl
 ascends_front (x ∷ []) l more a = a.0
 ascends_front (x ∷ y ∷ ys) l more a = ascends_front (y ∷ ys) l more a.1
 
@@ -80,13 +89,13 @@ next_link t all links rest more are e f some =
     let here : AreInOrder t (links ++ next.0 ∷ next.1) = subst (AreInOrder t) whole are in
     (next.0, next.1, whole, next.3, valid_at t links next.0 next.1 here, may_follow t links next.0 next.1 here)
 
--- the test of the last link
-pub before_at : (links : List Link) (n : Name) (x : Link) (b : Bool) → 1 ≤ length links → x ≡ get_or links (length links - 1) x → b ≡ name_lt x.name n → IsTrue b ↔ IsBefore links n
-before_at [] n x b some is e = absurd (omega arith)
-before_at (y ∷ ys) n x b some is e =
-    let at : x ≡ get_or (y ∷ ys) (length ys) x = is ∙ ap (λ i. get_or (y ∷ ys) i x) (let k : length (y ∷ ys) - 1 ≡ length ys = omega arith in k) in
-    let same : name_lt (get_or (y ∷ ys) (length ys) x).name n ≡ b = sym (e ∙ ap (λ (z : Link). name_lt z.name n) at) in
-    (λ h. last_back y ys n x (subst IsTrue (sym same) h), λ h. subst IsTrue same (last_forth y ys n x h))
+-- the test of how many there are, and of the last
+pub stands-follows : (links : List Link) (l : Link) (b : Bool) → b ≡ may_stand (length links) (last_name links) l.name → IsTrue b ↔ MayFollow links l
+stands-follows links l b e =
+    let after = option_map_or (λ m. name_lt m l.name) (last_name links) true in (
+      λ h. let parts = and_parts (nat_lt (length links) most_links) after (sym e ∙ h) in record { room = ltb-true (length links) most_links parts.0; before = parts.1 },
+      λ may. e ∙ and_from (nat_lt (length links) most_links) after (lt-ltb (length links) most_links may.room) may.before,
+    )
 
 -- what is answered where something else than the spelled value comes
 pub not_bad : {X : Type 0} (x : X) (f : FileFault) → f ≡ BadFile → Gives x (Err f) → ⊥

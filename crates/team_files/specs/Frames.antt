@@ -1,5 +1,5 @@
 -- The frames of a team file, and what reading them answers.
-use Rattle.std.specs.Prelude.{◌≡◌, ℕ, ◌<◌, ◌≤◌, List, [], ◌∷◌, length, map, codes, flat_map, IsTrue, Result, Ok, Err}
+use Rattle.std.specs.Prelude.{◌≡◌, ℕ, ◌+◌, ◌<◌, ◌≤◌, nat_lt, Bool, true, ◌&&◌, List, [], ◌∷◌, length, map, take, drop, codes, flat_map, IsTrue, Option, Some, None, Result, Ok, Err}
 use Rattle.std.specs.List.{AllByRecursion}
 use Rattle.std.specs.Option.{option_map_or}
 use Rattle.tg_text.specs.Limits.{most_links}
@@ -8,7 +8,7 @@ use Rattle.team_sets.specs.Names.{Name, name_lt}
 use Rattle.team_model.specs.Judging.{name_of}
 use Rattle.team_model.specs.declared.terms.Link.{Link}
 use Rattle.link_text.specs.LinkText.{text, Ascends, IsValid}
-use Rattle.link_text.specs.TeamFile.{frame}
+use Rattle.link_text.specs.TeamFile.{by_name, frame, IsFileOf}
 use Rattle.link_graph.specs.Holds.{text_named}
 use Rattle.team_files.specs.declared.fault.FileFault.{FileFault}
 use Rattle.team_files.specs.declared.fault.FileFault.TheVariants.{BadFile, Memory}
@@ -33,11 +33,19 @@ frame_named links n = option_map_or frame (text_named links n) []
 abbrev pub frames_named : List Link → List Name → List ℕ
 frames_named links ns = flat_map (frame_named links) ns
 
--- the name is behind that of the last link, if there is one
+-- the name of the last link, if there is one
+abbrev pub last_name : List Link → Option Name
+last_name [] = None
+last_name (x ∷ []) = Some x.name
+last_name (x ∷ y ∷ ys) = last_name (y ∷ ys)
+
+-- whether a name may stand after so many links, of which the last has this name
+abbrev pub may_stand : ℕ → Option Name → Name → Bool
+may_stand count last n = nat_lt count most_links && option_map_or (λ m. name_lt m n) last true
+
+-- the name is after that of the last link, if there is one
 abbrev pub IsBefore : List Link → Name → Type 0
-IsBefore [] n = Unit {0}
-IsBefore (x ∷ []) n = IsTrue (name_lt x.name n)
-IsBefore (x ∷ y ∷ ys) n = IsBefore (y ∷ ys) n
+IsBefore links n = IsTrue (option_map_or (λ m. name_lt m n) (last_name links) true)
 
 -- a further link may stand behind the links
 pub record MayFollow (links : List Link) (l : Link) : Type 0 where
@@ -49,6 +57,24 @@ pub record AreInOrder (t : Name) (links : List Link) : Type 0 where
   pub valid : AllByRecursion (λ l. IsValid t (text l) l) links
   pub ascend : Ascends (map name_of links)
   pub few : length links ≤ most_links
+
+-- the text stands in the bytes from the offset on, and is so long
+pub record StandsAt (bytes : List ℕ) (offset size : ℕ) (content : List ℕ) : Type 0 where
+  pub within : offset + size ≤ length bytes
+  pub is_there : take size (drop offset bytes) ≡ content
+
+-- each pair is where the text of its link stands in the bytes, and how long it is
+abbrev pub AreTexts : List ℕ → List (ℕ × ℕ) → List Link → Type 0
+AreTexts bytes [] [] = Unit {0}
+AreTexts bytes (f ∷ fs) (l ∷ ls) = StandsAt bytes f.0 f.1 (text l) × AreTexts bytes fs ls
+AreTexts bytes [] (l ∷ ls) = ⊥
+AreTexts bytes (f ∷ fs) [] = ⊥
+
+-- The bytes are the file of these links, which stand in ascending order of names, and each pair is where the text of its link stands.
+pub record IsViewOf (bytes : List ℕ) (t : Name) (places : List (ℕ × ℕ)) (links : List Link) : Type 0 where
+  pub is_file : IsFileOf bytes t links
+  pub ascend : by_name links ≡ links
+  pub texts : AreTexts bytes places links
 
 -- what may be answered where this is what is spelled
 abbrev pub Gives : {X : Type 0} → X → Result X FileFault → Type 0

@@ -6,10 +6,7 @@ use crate::item::Item;
 use crate::next::read_piece;
 use std::alloc::Global;
 use std::marker::Model;
-use tg_text::{Bytes, Items, Memory};
-
-// How many bytes of a bundle are judged.
-const MAX_BYTES: usize = 268_435_456;
+use tg_text::{Bytes, Items, MOST_FILE_BYTES, Memory};
 
 /// Reads a bundle that comes in pieces. Its items depend on the bytes, and not on how they were cut.
 ///
@@ -40,7 +37,7 @@ impl Bundle {
         Bundle {
             alloc,
             kept: Bytes::new(alloc),
-            left: MAX_BYTES,
+            left: MOST_FILE_BYTES as usize,
             over: false,
         }
     }

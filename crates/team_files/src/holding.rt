@@ -1,5 +1,6 @@
 //! The graph of a team file: what is read is held at once, and verified once.
 ghost use Rattle.std.specs.Prelude.{◌≡◌, ◌≤◌, ◌+◌, ◌++◌, [], ◌∷◌, List, length, IfOk, OnOk, Err};
+ghost use Rattle.tg_text.specs.Limits.{most_file_bytes};
 ghost use Rattle.link_text.specs.LinkText.{IsValid};
 ghost use Rattle.link_text.specs.TeamFile.{IsFileOf, by_name, frame, header};
 ghost use Rattle.team_files.specs.Frames.{AreInOrder, MayFollow, frames};
@@ -12,10 +13,7 @@ use crate::links::{may_follow, read_link_of};
 use link_graph::Graph;
 use std::alloc::Global;
 use team_model::Link;
-use tg_text::{Lines, LinkName};
-
-// How many bytes a team file may have.
-const MAX_BYTES: usize = 268_435_456;
+use tg_text::{Lines, LinkName, MOST_FILE_BYTES};
 
 /// The graph of a team file. Each link is read and verified once, and its text is copied once.
 ///
@@ -25,7 +23,7 @@ pub fn read_graph(alloc: Global, bytes: &[u8]) -> Result<Graph, FileFault>
     ensures ascending { IfOk result (λ graph. by_name graph.links ≡ graph.links) }
     ensures bad { result ≡ Err FileFault.BadFile → (team : Name) (links : List Link) → ¬ IsFileOf bytes.now team links }
 {
-    if bytes.len() > MAX_BYTES {
+    if bytes.len() as u64 > MOST_FILE_BYTES {
         return Err(FileFault::BadFile);
     }
     let mut lines = Lines::new(bytes);
@@ -38,7 +36,7 @@ pub fn read_graph(alloc: Global, bytes: &[u8]) -> Result<Graph, FileFault>
 
 // The graph of the links of frames that stand one behind the other.
 fn hold_frames(alloc: Global, team: LinkName, bytes: &[u8]) -> Result<Graph, FileFault>
-    requires short { length (header team) + length bytes.now ≤ 268435456 }
+    requires short { length (header team) + length bytes.now ≤ most_file_bytes }
     ensures team { IfOk result (λ graph. graph.team ≡ team) }
     ensures found { IfOk result (λ graph. AreInOrder team graph.links) }
     ensures spelled { IfOk result (λ graph. bytes.now ≡ frames graph.links) }
@@ -61,7 +59,7 @@ fn hold_frames(alloc: Global, team: LinkName, bytes: &[u8]) -> Result<Graph, Fil
 fn hold_next(graph: &mut Graph, bytes: &[u8], link: Link) -> Result<(), FileFault>
     requires valid { IsValid graph.old.team bytes.now link }
     requires order { AreInOrder graph.old.team graph.old.links }
-    requires short { length (header graph.old.team) + length (frames graph.old.links) + length (frame bytes.now) ≤ 268435456 }
+    requires short { length (header graph.old.team) + length (frames graph.old.links) + length (frame bytes.now) ≤ most_file_bytes }
     ensures ok { OnOk result (graph.new ≡ record graph.old { links = graph.old.links ++ link ∷ [] }) }
     ensures may { OnOk result (MayFollow graph.old.links link) }
     ensures bad { result ≡ Err FileFault.BadFile → ¬ MayFollow graph.old.links link }

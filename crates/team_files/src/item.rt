@@ -11,6 +11,6 @@ pub enum Item {
     Cut,
     /// No item begins here. What follows isn't read.
     BadFrame,
-    /// The input has more than 268,435,456 bytes. What follows isn't read.
+    /// The input has more bytes than a file may have. What follows isn't read.
     Long,
 }

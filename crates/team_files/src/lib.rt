@@ -1,9 +1,10 @@
 //! Team files: the header, which names the team, and a frame for each link, in ascending order of names. And bundles:
 //! headers and frames in any order and number, in whatever pieces they come.
 //!
-//! `specs/TeamFile.antt` of `link_text` says what the file of a set of links is. `read_file` answers that set exactly where
-//! the bytes are such a file, and `file_is_read_once` says that it is the only one. `specs/Bundles.antt` says what the items
-//! of a bundle are, which `Bundle` and `read_items` answer. The program's commands stand on both.
+//! `specs/TeamFile.antt` of `link_text` says what the file of a set of links is. `read_graph` answers a graph of that set, and
+//! `read_file` where its texts stand, exactly where the bytes are such a file; `file_is_read_once` says that the set is the only
+//! one. `specs/Bundles.antt` says what the items of a bundle are, which `Bundle` and `read_items` answer. The program's commands
+//! stand on both.
 #![tactic(auto)]
 
 mod bundle;

@@ -8,8 +8,18 @@ use link_graph::Graph;
 use std::alloc::Global;
 use tg_text::{Bytes, LinkName, Memory, write_decimal, write_hex};
 
-/// Appends the header of a team's file. Where memory is short, a front of it may stand behind what was there.
+/// Appends the header of a team's file, or nothing where memory is short.
 pub fn write_header(out: &mut Bytes, team: &LinkName) -> Result<(), Memory>
+    ensures ok { OnOk result (out.new ≡ out.old ++ header team.now) }
+    ensures err { OnErr result (out.new ≡ out.old) }
+{
+    let before = out.len();
+    let written = extend_header(out, team);
+    out.keep_whole(before, written)
+}
+
+// As `write_header`, but a front of the header stays where memory is short.
+fn extend_header(out: &mut Bytes, team: &LinkName) -> Result<(), Memory>
     ensures ok { OnOk result (out.new ≡ out.old ++ header team.now) }
     ensures err { OnErr result ((more : List ℕ) × (out.new ≡ out.old ++ more)) }
 {
@@ -19,8 +29,18 @@ pub fn write_header(out: &mut Bytes, team: &LinkName) -> Result<(), Memory>
     out.append(b"\n")
 }
 
-/// Appends the frame of a link's text. Where memory is short, a front of it may stand behind what was there.
+/// Appends the frame of a link's text, or nothing where memory is short.
 pub fn write_frame(out: &mut Bytes, text: &[u8]) -> Result<(), Memory>
+    ensures ok { OnOk result (out.new ≡ out.old ++ frame text.now) }
+    ensures err { OnErr result (out.new ≡ out.old) }
+{
+    let before = out.len();
+    let written = extend_frame(out, text);
+    out.keep_whole(before, written)
+}
+
+// As `write_frame`, but a front of the frame stays where memory is short.
+fn extend_frame(out: &mut Bytes, text: &[u8]) -> Result<(), Memory>
     ensures ok { OnOk result (out.new ≡ out.old ++ frame text.now) }
     ensures err { OnErr result ((more : List ℕ) × (out.new ≡ out.old ++ more)) }
 {

@@ -22,7 +22,7 @@ returns-in_err-graph-clause-bad c = λ same t links file.
 pub returns-clause-found : goal.returns-clause-found
 returns-clause-found c =
     let file = file_of c.args.bytes.now c.in-Some.team c.next_header.new.lines c.in_ok-graph.graph.links c.in-Some.ensures.found.0 (sym c.new-lines.ensures ∙ c.in-Some.ensures.found.1)
-    (sym c.rest.ensures ∙ c.in_ok-graph.ensures.spelled) c.in_ok-graph.ensures.found c.if-bytes-gt-MAX_BYTES.false in
+    (sym c.rest.ensures ∙ c.in_ok-graph.ensures.spelled) c.in_ok-graph.ensures.found c.if-bytes-gt-MOST_FILE_BYTES.false in
     subst (λ (t : Name). IsFileOf c.args.bytes.now t c.in_ok-graph.graph.links) (sym c.in_ok-graph.ensures.team) file
 
 pub returns-clause-ascending : goal.returns-clause-ascending

@@ -1,16 +1,10 @@
-use Rattle.std.proofs.Common.{◌≡◌, List, ◌++◌, length}
+use Rattle.std.proofs.Common.{List, length}
 use Rattle.team_model.specs.declared.terms.Link.{Link}
-use Rattle.team_files.specs.Frames.{AreInOrder, frames}
+use Rattle.team_files.proofs.Places.{IsReadTo}
 use Rattle.team_files.proofs.reading.read_frames.Given as goal
 
--- the links so far are in order and the bytes are their frames with the rest behind; and of any links in order whose
--- frames the bytes are, these are the first, and the rest is the frames of the others
 abbrev pub invariant-loop-rest : goal.invariant-loop-rest
-invariant-loop-rest l = record {
-  order : AreInOrder l.team l.links;
-  spelled : l.bytes ≡ frames l.links ++ l.rest;
-  only : (all : List Link) → AreInOrder l.team all → l.bytes ≡ frames all → (more : List Link) × (all ≡ l.links ++ more) × (l.rest ≡ frames more);
-}
+invariant-loop-rest l = (links : List Link) × IsReadTo l.team l.bytes l.at_end l.rest l.places l.last links
 
 abbrev pub decreases-loop-rest : goal.decreases-loop-rest
 decreases-loop-rest l = length l.rest

@@ -1,6 +1,6 @@
 use Rattle.std.proofs.Common.{◌≡◌, ◌++◌, ◌∷◌, [], ◌∙◌, ap, subst, codes, List, ℕ, OnOk, append_assoc}
 use Rattle.tg_text.specs.Spelling.{spell_hex}
-use Rattle.team_files.proofs.writing.write_header.Goals as goal
+use Rattle.team_files.proofs.writing.extend_header.Goals as goal
 
 pub returns-clause-ok : goal.returns-clause-ok
 returns-clause-ok c =
