@@ -1,5 +1,6 @@
 -- Bundles that are merged into a file one behind the other.
 use Rattle.std.proofs.Common.{◌≡◌, ◌↔◌, ◌⊎◌, inl, inr, ℕ, List, [], ◌∷◌, length, ◌≤◌, refl, sym, ◌∙◌, ap, subst}
+use Rattle.tg_text.specs.Limits.{most_file_bytes, most_links}
 use Rattle.team_sets.specs.Names.{Name}
 use Rattle.team_sets.specs.Members.{HaveSameMembers, IsIn}
 use Rattle.team_sets.specs.OrderLaws.{IsSet}
@@ -42,7 +43,7 @@ module _ (old second : Held) (G H : List ℕ → Type 0) (team : second.team ≡
 
   fits_other : Fits old G → Fits second H
   fits_other fits links set all =
-      subst (λ (t : Name). (length links ≤ 16384) × (length (file_text t links) ≤ 268435456)) (sym team)
+      subst (λ (t : Name). (length links ≤ most_links) × (length (file_text t links) ≤ most_file_bytes)) (sym team)
       (fits links set (all_of (IsOneOf old G) links (λ l k. one l (all_at (IsOneOf second H) links all l k))))
     where
       one : (l : Link) → IsOneOf second H l → IsOneOf old G l

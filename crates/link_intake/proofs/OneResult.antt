@@ -1,6 +1,7 @@
 -- One thing alone becomes of a text, of an item and of a list of items that are given to a held set.
 use Rattle.std.proofs.Common.{◌≡◌, ◌≢◌, ◌≤◌, ◌<◌, ◌⊎◌, inl, inr, true, ℕ, zero, suc, List, [], ◌∷◌, ◌++◌, length, refl, sym, ◌∙◌, ap, subst, arith}
 use Rattle.std.proofs.lemmas.Bool.{cases_order, false≢true}
+use Rattle.tg_text.specs.Limits.{most_link_bytes}
 use Rattle.team_sets.specs.Names.{Name, has_name}
 use Rattle.team_sets.specs.Members.{IsIn}
 use Rattle.team_sets.specs.Order.{names}
@@ -30,7 +31,7 @@ module _ (once : LinkIsSpelledOnce) (old : Held) (held : IsHeld old.team old.lin
 
   abbrev Passes : ℕ → Type 0
   Passes zero = ¬ (HasText old.links bytes)
-  Passes (suc zero) = ¬ (1048576 < length bytes)
+  Passes (suc zero) = ¬ (most_link_bytes < length bytes)
   Passes (suc (suc zero)) = (l : Link) × Reads bytes l
   Passes (suc (suc (suc zero))) = (l : Link) × Reads bytes l × IsOfTeam old.team l
   Passes (suc (suc (suc (suc zero)))) = (l : Link) × IsValid old.team bytes l
@@ -39,7 +40,7 @@ module _ (once : LinkIsSpelledOnce) (old : Held) (held : IsHeld old.team old.lin
 
   abbrev Stops : ℕ → Type 0
   Stops zero = HasText old.links bytes
-  Stops (suc zero) = 1048576 < length bytes
+  Stops (suc zero) = most_link_bytes < length bytes
   Stops (suc (suc zero)) = IsBadText bytes
   Stops (suc (suc (suc zero))) = IsOfOther old.team bytes
   Stops (suc (suc (suc (suc zero)))) = IsUnverified old.team bytes
@@ -100,7 +101,7 @@ module _ (once : LinkIsSpelledOnce) (old : Held) (held : IsHeld old.team old.lin
       false≢true (sym fresh ∙ ap (λ (k : Link). has_name (names name_of old.links) k.name) (sym (one_link has.0 l v.reads reads))
       ∙ name_in name_of prev_of old.links has.0 has.1 has.0.name refl)
 
-  short : (l : Link) → Reads bytes l → ¬ (1048576 < length bytes)
+  short : (l : Link) → Reads bytes l → ¬ (most_link_bytes < length bytes)
   short l reads long =
       let fits = reads.well_formed.fits in
       let same = ap (λ (t : List ℕ). length t) reads.is_text in

@@ -40,3 +40,15 @@ pub text_becomes : (old new : Held) (bytes : List ℕ) (r : Result Took TakeFaul
     → IfOk result (λ f. result_of r ≡ Some f) → IfOk result (λ f. TextBecomes old new bytes f)
 text_becomes old new bytes r (Ok f) is e = subst (λ (o : Option ItemResult). IfSome o (λ g. TextBecomes old new bytes g)) e (becomes_of old new bytes r is)
 text_becomes old new bytes r (Err m) is e = tt
+
+-- where memory is short nothing is taken
+kept_of : (old new : Held) (bytes : List ℕ) (r : Result Took TakeFault) → Answers old new bytes r → result_of r ≡ None → new ≡ old
+kept_of old new bytes (Ok (New positions)) is e = absurd (let bad : ◌≡◌ {A = Option ItemResult} (Some (became.New (length positions))) None = e in cc)
+kept_of old new bytes (Ok Waiting) is e = absurd (let bad : ◌≡◌ {A = Option ItemResult} (Some became.Waiting) None = e in cc)
+kept_of old new bytes (Ok Again) is e = is.taken.1
+kept_of old new bytes (Err f) is e = is.fault
+
+pub kept_where_none : (old new : Held) (bytes : List ℕ) (r : Result Took TakeFault) (result : Result ItemResult NoMemory) → Answers old new bytes r
+    → OnErr result (result_of r ≡ None) → OnErr result (new ≡ old)
+kept_where_none old new bytes r (Ok f) is e = tt
+kept_where_none old new bytes r (Err m) is e = kept_of old new bytes r is e

@@ -2,6 +2,7 @@
 use Rattle.std.proofs.Common.{◌≡◌, ◌↔◌, ◌⊎◌, ◌≤◌, inl, inr, ℕ, List, [], ◌∷◌, ◌++◌, length, refl, sym, ◌∙◌, ap, subst, arith}
 use Rattle.std.proofs.lemmas.Bool.{false≢true}
 use Rattle.std.proofs.lemmas.List.{length_push}
+use Rattle.tg_text.specs.Limits.{most_file_bytes, most_links}
 use Rattle.team_sets.specs.Names.{Name}
 use Rattle.team_sets.specs.Members.{IsIn}
 use Rattle.team_sets.proofs.Arrivals.{in_append-left}
@@ -39,7 +40,7 @@ module _ (old mid : Held) (G H : List ℕ → Type 0) (team : mid.team ≡ old.t
 
   pub fits_within : Fits old G → Fits mid H
   fits_within fits links set all =
-      subst (λ (t : Name). (length links ≤ 16384) × (length (file_text t links) ≤ 268435456)) (sym team)
+      subst (λ (t : Name). (length links ≤ most_links) × (length (file_text t links) ≤ most_file_bytes)) (sym team)
       (fits links set (all_of (IsOneOf old G) links (λ l k. one l (all_at (IsOneOf mid H) links all l k))))
     where
       one : (l : Link) → IsOneOf mid H l → IsOneOf old G l
@@ -117,7 +118,7 @@ module _ (once : LinkIsSpelledOnce) (old : Held) (held : IsHeld old.team old.lin
       (all_of (IsOneOf old One) old.links (λ x k. (all_at valid_of old.links held.valid x k, inl (x, k, refl))))
       (at_text l v, inr (ap (λ (b : List ℕ). Text b) v.reads.is_text)) in
       let within = fits (old.links ++ l ∷ []) (set_push old.links l held.set fresh) all in
-      let few : length (old.links ++ l ∷ []) ≤ 16384 = within.0 in
+      let few : length (old.links ++ l ∷ []) ≤ most_links = within.0 in
       let count = length_push old.links l in
       record { few = omega (arith, few, count); short = within.1 }
 

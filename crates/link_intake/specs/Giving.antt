@@ -1,5 +1,5 @@
 -- What becomes of the items of a bundle that are given to a team's links, one after another.
-use Rattle.std.specs.Prelude.{◌≡◌, ◌<◌, ℕ, List, [], ◌∷◌, length, Option, Some, None, Result, Ok, Err}
+use Rattle.std.specs.Prelude.{◌≡◌, ◌<◌, ◌⊎◌, ℕ, List, [], ◌∷◌, ◌++◌, length, Option, Some, None, Result, Ok, Err}
 use Rattle.tg_text.specs.Limits.{most_link_bytes}
 use Rattle.link_text.specs.Faults.{IsBadText, IsOfOther, IsUnverified}
 use Rattle.link_text.specs.TeamFile.{IsHeld}
@@ -51,11 +51,28 @@ IsGiven old [] new results = (results ≡ []) × (new ≡ old)
 IsGiven old (item ∷ items) new [] = ⊥
 IsGiven old (item ∷ items) new (f ∷ results) = (mid : Held) × Becomes old mid item f × IsGiven mid items new results
 
+-- some first items were given in turn, and no others
+pub record IsPartGiven (old : Held) (items : List Item) (new : Held) : Type 0 where
+  pub first : List Item
+  pub rest : List Item
+  pub whole : items ≡ first ++ rest
+  pub results : List ItemResult
+  pub given : IsGiven old first new results
+
 -- the items of a bundle were given in turn
 pub record IsBundleGiven (old : Held) (bundle : List ℕ) (new : Held) (results : List ItemResult) : Type 0 where
   pub items : List Item
   pub is_bundle : IsBundle bundle items
   pub given : IsGiven old items new results
+
+-- nothing was given, or some first items of a bundle
+abbrev pub IsBundlePartGiven : Held → List ℕ → Held → Type 0
+IsBundlePartGiven old bundle new = (new ≡ old) ⊎ ((items : List Item) × IsBundle bundle items × IsPartGiven old items new)
+
+-- one thing alone becomes of items that are given to a held set
+abbrev pub ItemsAreGivenOnce : Type 0
+ItemsAreGivenOnce = (old new other : Held) (items : List Item) (results others : List ItemResult) → IsHeld old.team old.links
+    → IsGiven old items new results → IsGiven old items other others → (results ≡ others) × (new ≡ other)
 
 -- one thing alone becomes of a bundle that is given to a held set
 abbrev pub BundleIsGivenOnce : Type 0

@@ -1,7 +1,7 @@
 //! Items of a bundle are given to a graph.
-ghost use Rattle.std.specs.Prelude.{◌≡◌, ◌∷◌, ◌++◌, [], Some, Err, IfOk, OnOk};
+ghost use Rattle.std.specs.Prelude.{◌≡◌, ◌⊎◌, ◌∷◌, ◌++◌, [], Some, None, Err, IfOk, OnOk, OnErr};
 ghost use Rattle.link_intake.specs.declared.item_result.ItemResult.{ItemResult};
-ghost use Rattle.link_intake.specs.Giving.{Becomes, IsBundleGiven, IsGiven, TextBecomes, result_of};
+ghost use Rattle.link_intake.specs.Giving.{Becomes, IsBundleGiven, IsBundlePartGiven, IsGiven, IsPartGiven, TextBecomes, result_of};
 
 use crate::item_result::{ItemResult, Refusal};
 use link_graph::{Graph, TakeFault, Took};
@@ -11,7 +11,8 @@ use tg_text::{Items, Memory};
 
 // Why a text isn't taken, unless memory is short.
 fn refusal_of(fault: &TakeFault) -> Result<ItemResult, Memory>
-    ensures { IfOk result (λ became. result_of (Err fault.now) ≡ Some became) }
+    ensures some { IfOk result (λ became. result_of (Err fault.now) ≡ Some became) }
+    ensures none { OnErr result (result_of (Err fault.now) ≡ None) }
 {
     match fault {
         TakeFault::TooLong => Ok(ItemResult::Refused(Refusal::TooLong)),
@@ -27,7 +28,8 @@ fn refusal_of(fault: &TakeFault) -> Result<ItemResult, Memory>
 }
 
 fn result_of(answer: &Result<Took, TakeFault>) -> Result<ItemResult, Memory>
-    ensures { IfOk result (λ became. result_of answer.now ≡ Some became) }
+    ensures some { IfOk result (λ became. result_of answer.now ≡ Some became) }
+    ensures none { OnErr result (result_of answer.now ≡ None) }
 {
     match answer {
         Ok(Took::New { connected }) => Ok(ItemResult::New {
@@ -40,14 +42,16 @@ fn result_of(answer: &Result<Took, TakeFault>) -> Result<ItemResult, Memory>
 }
 
 fn take_text(graph: &mut Graph, bytes: &[u8]) -> Result<ItemResult, Memory>
-    ensures { IfOk result (λ became. TextBecomes graph.old graph.new bytes.now became) }
+    ensures becomes { IfOk result (λ became. TextBecomes graph.old graph.new bytes.now became) }
+    ensures same { OnErr result (graph.new ≡ graph.old) }
 {
     result_of(&graph.take(bytes))
 }
 
-// Gives an item, and adds what becomes of it.
+// Gives an item, and adds what becomes of it. Where there is no room to add it, the item may be given all the same.
 fn give_item(graph: &mut Graph, item: &Item, results: &mut Items<ItemResult>) -> Result<(), Memory>
-    ensures { OnOk result ((became : ItemResult) × (results.new ≡ results.old ++ became ∷ []) × Becomes graph.old graph.new item.now became) }
+    ensures given { OnOk result ((became : ItemResult) × (results.new ≡ results.old ++ became ∷ []) × Becomes graph.old graph.new item.now became) }
+    ensures part { OnErr result ((graph.new ≡ graph.old) ⊎ ((became : ItemResult) × Becomes graph.old graph.new item.now became)) }
 {
     match item {
         Item::Header => results.push(ItemResult::Header),
@@ -60,13 +64,14 @@ fn give_item(graph: &mut Graph, item: &Item, results: &mut Items<ItemResult>) ->
 
 /// Gives the items to the graph in turn. What became of each stands in their order.
 ///
-/// For want of memory some items may have been given.
+/// Where memory is short, some first items are given.
 pub fn give_items(
     alloc: Global,
     graph: &mut Graph,
     items: &[Item],
 ) -> Result<Items<ItemResult>, Memory>
-    ensures { IfOk result (λ results. IsGiven graph.old items.now graph.new results) }
+    ensures given { IfOk result (λ results. IsGiven graph.old items.now graph.new results) }
+    ensures part { OnErr result (IsPartGiven graph.old items.now graph.new) }
 {
     let mut results = Items::new(alloc);
     for item in items {
@@ -81,7 +86,8 @@ pub fn give_bundle(
     graph: &mut Graph,
     bundle: &[u8],
 ) -> Result<Items<ItemResult>, Memory>
-    ensures { IfOk result (λ results. IsBundleGiven graph.old bundle.now graph.new results) }
+    ensures given { IfOk result (λ results. IsBundleGiven graph.old bundle.now graph.new results) }
+    ensures part { OnErr result (IsBundlePartGiven graph.old bundle.now graph.new) }
 {
     let items = read_items(alloc, bundle)?;
     give_items(alloc, graph, items.as_slice())

@@ -1,4 +1,4 @@
-ghost use Rattle.link_intake.specs.Giving.{BundleIsGivenOnce};
+ghost use Rattle.link_intake.specs.Giving.{BundleIsGivenOnce, ItemsAreGivenOnce};
 ghost use Rattle.link_intake.specs.UnionLaws.{MergeIsUnion, MergesInAnyOrder};
 
 use link_text::{file_is_of_set, link_is_spelled_once};
@@ -22,10 +22,17 @@ pub fn merges_in_any_order()
     bundle_is_read_once();
 }
 
+/// One thing alone becomes of items that are given to a held set.
+pub fn items_are_given_once()
+    ensures { ItemsAreGivenOnce }
+{
+    link_is_spelled_once();
+}
+
 /// One thing alone becomes of a bundle that is given to a held set.
 pub fn bundle_is_given_once()
     ensures { BundleIsGivenOnce }
 {
-    link_is_spelled_once();
+    items_are_given_once();
     bundle_is_read_once();
 }

@@ -69,7 +69,7 @@ returns-in_err-replace_one-clause-body g c = λ rest.
     (goes_on FindsBytes bundle (λ b. merging file held b) rest _ _ _ _ given c.in_ok-given.ensures.opened c.in_ok-given.ensures.same
     (body_cut (merging file held given) _ _ _ c.in_err-replace_one.field-0.0 (results_status results) file (file_text new.team new.links) (results_text results)
     c.from_residual-in_err-replace_one.ensures.1
-    (λ w is. (new, results, rw c.as_slice.ensures at c.in_ok-results.ensures, refl))
+    (λ w is. (new, results, rw c.as_slice.ensures at c.in_ok-results.ensures.given, refl))
     (λ rest w is. rw (c.as_slice-4.ensures, c.in_ok-bytes.ensures) at (c.in_err-replace_one.ensures.cut rest w is)) rest))
 
 pub returns-clause-body : goal.returns-clause-body
@@ -83,5 +83,5 @@ returns-clause-body g c = λ rest.
     goes_on FindsTeam file (λ h. opening FindsBytes bundle (λ b. merging file h b)) rest _ _ _ _ held c.in_ok-graph.ensures.opened c.in_ok-graph.ensures.same
     (goes_on FindsBytes bundle (λ b. merging file held b) rest _ _ _ _ given c.in_ok-given.ensures.opened c.in_ok-given.ensures.same
     (body_replaced (merging file held given) _ _ _ file (file_text new.team new.links)
-    (λ w is. (new, results, rw c.as_slice.ensures at c.in_ok-results.ensures, rw (c.results_status-status.ensures, c.in_ok-text.ensures, c.as_slice-2.ensures, c.as_slice-3.ensures) refl))
+    (λ w is. (new, results, rw c.as_slice.ensures at c.in_ok-results.ensures.given, rw (c.results_status-status.ensures, c.in_ok-text.ensures, c.as_slice-2.ensures, c.as_slice-3.ensures) refl))
     (λ rest w is. rw (c.as_slice-4.ensures, c.in_ok-bytes.ensures) at (c.in_ok-replace_one.ensures.done rest w is)) rest))

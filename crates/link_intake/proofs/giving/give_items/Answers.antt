@@ -1,13 +1,20 @@
-use Rattle.std.proofs.Common.{arith, drop_of_length-le}
-use Rattle.link_intake.proofs.Givings.{gives_all, gives_next}
+use Rattle.std.proofs.Common.{arith, rules}
+use Rattle.std.proofs.lemmas.List.{take_all}
+use Rattle.link_intake.proofs.Givings.{given_next, part_next}
 use Rattle.link_intake.proofs.giving.give_items.Goals as goal
 
 pub loop-item-preserved : goal.loop-item-preserved
 loop-item-preserved c =
-    let i = c.loop-item.item-index in
-    let item = c.item-item.result in
-    let next = c.in_ok-give_item.ensures in
-    rw (next.1) (gives_next _ _ _ c.args.items.now i item c.loop-item.results next.0 c.loop-item-test.true c.item-item.is next.2 c.loop-item.invariant)
+    let next = c.in_ok-give_item.ensures.given in
+    rw (next.1)
+    (given_next _ _ _ c.args.items.now c.loop-item.item-index c.item-item.result c.loop-item.results c.loop-item-test.true c.item-item.is next.0 c.loop-item.invariant next.2)
 
-pub returns : goal.returns
-returns c = gives_all _ _ c.args.items.now _ c.loop-item.results (drop_of_length-le c.args.items.now (omega arith)) c.loop-item.invariant
+pub returns-in_err-give_item-clause-part : goal.returns-in_err-give_item-clause-part
+returns-in_err-give_item-clause-part c =
+    let part =
+    part_next _ _ _ c.args.items.now c.loop-item.item-index c.item-item.result c.loop-item.results c.loop-item-test.true c.item-item.is c.loop-item.invariant
+    c.in_err-give_item.ensures.part in
+    search (rules, part)
+
+pub returns-clause-given : goal.returns-clause-given
+returns-clause-given c = rw (take_all c.loop-item.item-index c.args.items.now (omega arith)) at c.loop-item.invariant

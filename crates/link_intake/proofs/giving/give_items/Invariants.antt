@@ -1,6 +1,6 @@
-use Rattle.std.proofs.Common.{drop}
-use Rattle.link_intake.proofs.Givings.{GivesSo}
+use Rattle.std.proofs.Common.{take}
+use Rattle.link_intake.specs.Giving.{IsGiven}
 use Rattle.link_intake.proofs.giving.give_items.Given as goal
 
 abbrev pub invariant-loop-item : goal.invariant-loop-item
-invariant-loop-item l = GivesSo l.fn.graph l.items l.graph (drop l.item-index l.items) l.results
+invariant-loop-item l = IsGiven l.fn.graph (take l.item-index l.items) l.graph l.results
