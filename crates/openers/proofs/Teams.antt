@@ -1,5 +1,5 @@
 -- One held set is found of a team's file.
-use Rattle.std.proofs.Common.{◌≡◌, ◌∙◌, ℕ, List, Option, Some, None, refl, sym, ap}
+use Rattle.std.proofs.Common.{◌≡◌, ◌∙◌, ℕ, List, Option, Some, None, sym, ap}
 use Rattle.team_sets.specs.SortedLaws.{by_names}
 use Rattle.team_sets.proofs.Sorted.{ascending-of_set, names-strict, set-apart}
 use Rattle.team_model.specs.Judging.{name_of}

@@ -4,8 +4,10 @@
 //! any bytes, and files that must be absent, are opened by `outcomes`. The crates of commands stand on this one.
 #![tactic(auto)]
 
+mod key;
 mod laws;
 mod team;
 
-pub use laws::team_is_found_once;
+pub use key::open_key;
+pub use laws::{key_is_found_once, team_is_found_once};
 pub use team::open_team;
