@@ -22,7 +22,8 @@
 //! looked at by itself. A line of any other form stops the program. Of each session the program prints how many runs agree, and before that each run that differs.
 //!
 //! The links of the data are of a team whose links ann's key signs: types 5 and 3, the id of sixteen bytes 0x11, the seed of 32
-//! bytes 0x22. `team_cases` signs them again. What is printed, and the names in it, were computed by another program.
+//! bytes 0x22. `team_cases` signs them again. What is printed, and the names in it, were computed by another program; the files
+//! `roles.team` and `devices.team` were made by it too.
 #![tactic(auto)]
 
 mod expected;

@@ -10,7 +10,7 @@ pub fn file_holds<F: Files>(alloc: Global, data: &mut F, row: &str) -> Result<bo
     let (verdict, pieces) = row.split_once(' ').unwrap_or((row, ""));
     let bytes = read_pieces(alloc, data, pieces)?;
     let viewed = match read_file(alloc, bytes.as_slice()) {
-        Ok(view) => Some(view.links.len() as u64),
+        Ok(view) => Some(view.frames.len() as u64),
         Err(FileFault::BadFile) => None,
         Err(FileFault::Memory) => return Err(SampleFault::Memory),
     };

@@ -44,15 +44,16 @@ impl History {
 }
 
 /// A history of so many links by two keys, at least the root. Every link but the root has one to three parents among those before
-/// it. Every seventh is by somebody who isn't on the team; the others are titles, and joins where there are two parents or more.
-/// A leaf signs more than one link. Another number gives another history.
+/// it. Ann founds the team, and the link after that adds bo; of the others three in seven are by bo, and one is by somebody who isn't on
+/// the team. Those with three parents join, and the others have acts of all kinds that a link may have, whether lawful or not. A
+/// leaf signs more than one link. Another number gives another history.
 pub fn make_history(alloc: Global, number: u64, count: u64) -> Result<History, SampleFault> {
     let authors = Authors {
-        own: own_key(alloc)?,
-        other: other_key(alloc)?,
+        ann: own_key(alloc)?,
+        bo: other_key(alloc)?,
     };
-    let body = root_body(alloc, &authors.own, number)?;
-    let first = sign(alloc, &authors.own, 0, body.as_slice())?;
+    let body = root_body(alloc, &authors.ann, number)?;
+    let first = sign(alloc, &authors.ann, 0, body.as_slice())?;
     let mut history = History {
         team: name_of(first.as_slice()),
         texts: Vec::new(alloc),
@@ -62,20 +63,31 @@ pub fn make_history(alloc: Global, number: u64, count: u64) -> Result<History, S
     let mut draws = Draws { state: number };
     for n in 1..count {
         let parents = draw_parents(alloc, &mut draws, history.names.as_slice())?;
-        let text = authors.write(alloc, &history.team, parents.as_slice(), n)?;
+        let drawn = draws.below(10);
+        let act = authors.act(alloc, n, parents.len(), drawn)?;
+        let text = authors.write(alloc, &history.team, parents.as_slice(), n, &act)?;
         history.add(text)?;
     }
     Ok(history)
 }
 
-// Ann's key, and that of somebody who isn't on the team.
+// Ann's key and bo's. The latter signs too for somebody who isn't on the team.
 #[derive(Drop)]
 struct Authors {
-    own: Tree,
-    other: Tree,
+    ann: Tree,
+    bo: Tree,
 }
 
 impl Authors {
+    // The user and the key of the link of this number.
+    fn author(&self, n: u64) -> (&'static [u8], &Tree) {
+        match n % 7 {
+            2 | 4 | 6 => (&b"bo"[..], &self.bo),
+            3 => (&b"zed"[..], &self.bo),
+            _ => (&b"ann"[..], &self.ann),
+        }
+    }
+
     // The text of the link of this number.
     fn write(
         &self,
@@ -83,28 +95,68 @@ impl Authors {
         team: &LinkName,
         parents: &[LinkName],
         n: u64,
+        act: &Bytes,
     ) -> Result<Bytes, SampleFault> {
-        if is_strange(n) {
-            return write_by(alloc, &self.other, team, parents, n);
+        let (user, key) = self.author(n);
+        let mut body = head_of(alloc, team, parents)?;
+        body.append(b"user ")?;
+        body.append(user)?;
+        body.append(b"\nkey ")?;
+        write_base64(&mut body, key.public().as_slice())?;
+        body.append(b"\ntime ")?;
+        write_decimal(&mut body, n)?;
+        body.append(b"\nact ")?;
+        body.append(act.as_slice())?;
+        body.append(b"\n")?;
+        sign(alloc, key, (n % 32) as u32, body.as_slice())
+    }
+
+    // The act of the link of this number, with so many parents: the one that is drawn, but for the first, and for joins.
+    fn act(&self, alloc: Global, n: u64, parents: usize, drawn: usize) -> Result<Bytes, Memory> {
+        if n == 1 {
+            return newcomer(alloc, &self.bo);
         }
-        write_by(alloc, &self.own, team, parents, n)
+        if parents == 3 {
+            return Bytes::from_slice(alloc, b"join");
+        }
+        match drawn {
+            0 => newcomer(alloc, &self.bo),
+            1 => new_device(alloc, n),
+            2 | 3 => Bytes::from_slice(alloc, b"add_role deck"),
+            4 => Bytes::from_slice(alloc, b"remove_role deck"),
+            5 => Bytes::from_slice(alloc, b"give_role bo deck"),
+            6 => Bytes::from_slice(alloc, b"give_role bo admin"),
+            7 => Bytes::from_slice(alloc, b"rotate role:deck"),
+            8 => Bytes::from_slice(alloc, b"seal"),
+            _ => title(alloc, n),
+        }
     }
 }
 
-fn write_by(
-    alloc: Global,
-    key: &Tree,
-    team: &LinkName,
-    parents: &[LinkName],
-    n: u64,
-) -> Result<Bytes, SampleFault> {
-    let body = child_body(alloc, key, team, parents, n)?;
-    sign(alloc, key, (n % 32) as u32, body.as_slice())
+// What adds bo with this key.
+fn newcomer(alloc: Global, key: &Tree) -> Result<Bytes, Memory> {
+    let mut act = Bytes::from_slice(alloc, b"add_member bo ")?;
+    write_base64(&mut act, key.public().as_slice())?;
+    act.append(b" ")?;
+    write_hex(&mut act, &[0x66; 32])?;
+    Ok(act)
 }
 
-// Whether the link of this number is by somebody who isn't on the team.
-fn is_strange(n: u64) -> bool {
-    n % 7 == 3
+// What adds a device of the author's, one of five.
+fn new_device(alloc: Global, n: u64) -> Result<Bytes, Memory> {
+    let mut key = [(n % 5) as u8; 56];
+    key[..8].copy_from_slice(&[0, 0, 0, 5, 0, 0, 0, 3]);
+    let mut act = Bytes::from_slice(alloc, b"add_device ")?;
+    write_base64(&mut act, &key)?;
+    act.append(b" ")?;
+    write_hex(&mut act, &[0x77; 32])?;
+    Ok(act)
+}
+
+fn title(alloc: Global, n: u64) -> Result<Bytes, Memory> {
+    let mut act = Bytes::from_slice(alloc, b"title Title ")?;
+    write_decimal(&mut act, n)?;
+    Ok(act)
 }
 
 fn root_body(alloc: Global, key: &Tree, time: u64) -> Result<Bytes, Memory> {
@@ -134,32 +186,6 @@ fn draw_parents(
     }
     parents.sort()?;
     Ok(parents)
-}
-
-fn child_body(
-    alloc: Global,
-    key: &Tree,
-    team: &LinkName,
-    parents: &[LinkName],
-    n: u64,
-) -> Result<Bytes, Memory> {
-    let mut text = head_of(alloc, team, parents)?;
-    text.append(if is_strange(n) {
-        b"user zed\nkey "
-    } else {
-        b"user ann\nkey "
-    })?;
-    write_base64(&mut text, key.public().as_slice())?;
-    text.append(b"\ntime ")?;
-    write_decimal(&mut text, n)?;
-    if parents.len() > 1 && !is_strange(n) {
-        text.append(b"\nact join\n")?;
-        return Ok(text);
-    }
-    text.append(b"\nact title Title ")?;
-    write_decimal(&mut text, n)?;
-    text.append(b"\n")?;
-    Ok(text)
 }
 
 // The lines that stand before the author.

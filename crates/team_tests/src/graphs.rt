@@ -1,4 +1,5 @@
 //! Graphs and replicas of the same links in any order.
+use crate::undoing::take_and_undo;
 use link_graph::{Graph, TakeFault, Took};
 use link_text::{finish, name_of};
 use replica::Replica;
@@ -102,6 +103,34 @@ fn the_file_of_a_graph_is_that_graph(rt: HostRuntime) -> Result<(), Fail> {
     assert!(rt; file.len() as u64 == graph.file_bytes());
     let read = read_graph(alloc, file.as_slice()).ok().ok_or("no file")?;
     assert!(rt; are_same(alloc, &graph, &read)?);
+    Ok(())
+}
+
+// Whether a text is taken and let go, which leaves what is held, and is then taken to stay.
+fn goes_and_stays(graph: &mut Graph, text: &[u8]) -> bool {
+    let (held, heads) = (graph.held(), graph.heads().len());
+    let is_undone = take_and_undo(graph, text) && !graph.holds(&name_of(text));
+    is_undone && graph.held() == held && graph.heads().len() == heads && is_taken(graph, text)
+}
+
+// How many links are connected in the end, where each of a history is let go once before it stays, in the order of these places.
+fn undone_in(alloc: Global, history: &History, order: &[usize]) -> Option<u32> {
+    let mut graph = Graph::new(alloc, history.team);
+    for place in order {
+        if !goes_and_stays(&mut graph, history.texts.get(*place)?.as_slice()) {
+            return None;
+        }
+    }
+    Some(graph.connected())
+}
+
+// Forwards, and with the root last.
+#[test]
+fn a_graph_without_its_last_link(rt: HostRuntime) -> Result<(), Fail> {
+    let history = make_history(rt.alloc(), 5, 9)?;
+    for order in [[0, 1, 2, 3, 4, 5, 6, 7, 8], [1, 2, 3, 4, 5, 6, 7, 8, 0]] {
+        assert_eq!(rt; undone_in(rt.alloc(), &history, &order), Some(9));
+    }
     Ok(())
 }
 

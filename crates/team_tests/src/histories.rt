@@ -1,5 +1,5 @@
 //! Generated histories: a team is shown the same in whatever order its links came.
-use replica::Replica;
+use replica::{Replica, Verdict};
 use std::alloc::Global;
 use std::test::Fail;
 use team_report::show_text;
@@ -7,9 +7,17 @@ use team_samples::{Draws, History, all_but, backwards, make_history, shuffled};
 use tg_outside::{Silent, Steps};
 use tg_text::Bytes;
 
-// The text of show after these links of a history came in this order, and how many wait; `None` where one is refused, or for want
-// of memory.
-fn shown(alloc: Global, history: &History, order: &[usize]) -> Option<(Bytes, u32)> {
+// What is shown of some links of a history, and how many of them wait, are unlawful, and are refused at their turn.
+#[derive(Drop)]
+struct Shown {
+    text: Bytes,
+    waiting: u32,
+    unlawful: u32,
+    refused: u32,
+}
+
+// What is shown after these links came in this order; `None` where one isn't taken, or for want of memory.
+fn show_after(alloc: Global, history: &History, order: &[usize]) -> Option<Shown> {
     let mut replica = Replica::new(alloc, history.team).ok()?;
     for &place in order {
         let text = history.texts.get(place)?;
@@ -19,26 +27,61 @@ fn shown(alloc: Global, history: &History, order: &[usize]) -> Option<(Bytes, u3
     }
     let text = show_text(alloc, &replica).ok()?;
     let graph = replica.graph();
-    Some((text, graph.held().saturating_sub(graph.connected())))
+    let waiting = graph.held().saturating_sub(graph.connected());
+    let (unlawful, refused) = not_counting(replica.view().verdicts.as_slice());
+    Some(Shown {
+        text,
+        waiting,
+        unlawful,
+        refused,
+    })
 }
 
-// Histories of 2 to 60 links, each with one left out, on which others wait: forwards, backwards and shuffled.
+fn are_alike(one: &Shown, other: &Shown) -> bool {
+    one.text == other.text
+        && one.waiting == other.waiting
+        && one.unlawful == other.unlawful
+        && one.refused == other.refused
+}
+
+// How many are unlawful, and how many refused at their turn.
+fn not_counting(verdicts: &[Verdict]) -> (u32, u32) {
+    let (mut unlawful, mut refused) = (0u32, 0u32);
+    for verdict in verdicts {
+        match verdict {
+            Verdict::Unlawful(_) => unlawful = unlawful.saturating_add(1),
+            Verdict::Refused(_) => refused = refused.saturating_add(1),
+            _ => {}
+        }
+    }
+    (unlawful, refused)
+}
+
+// What is shown of a history with one link left out, on which others wait, and whether it is the same backwards and shuffled.
+fn show_history(alloc: Global, number: u64) -> Result<(Shown, bool), Fail> {
+    let history = make_history(alloc, number, number.saturating_mul(2))?;
+    let order = all_but(alloc, history.texts.len(), number as usize / 2 + 1)?;
+    let forwards = show_after(alloc, &history, order.as_slice()).ok_or("not taken")?;
+    let last_first = backwards(alloc, order.as_slice())?;
+    let mixed = shuffled(alloc, &mut Draws { state: number }, order.as_slice())?;
+    let last_first = show_after(alloc, &history, last_first.as_slice()).ok_or("not taken")?;
+    let mixed = show_after(alloc, &history, mixed.as_slice()).ok_or("not taken")?;
+    let is_same = are_alike(&last_first, &forwards) && are_alike(&mixed, &forwards);
+    Ok((forwards, is_same))
+}
+
+// Histories of 2 to 60 links. How many of these wait, are unlawful and are refused at their turn was computed by another program.
 #[test]
 fn thirty_histories_are_shown_the_same_in_any_order(rt: HostRuntime) -> Result<(), Fail> {
     let alloc = rt.alloc();
-    let mut waiting: u32 = 0;
-    for number in 1..31u64 {
-        let history = make_history(alloc, number, number * 2)?;
-        let order = all_but(alloc, history.texts.len(), number as usize / 2 + 1)?;
-        let forwards = shown(alloc, &history, order.as_slice()).ok_or("refused")?;
-        waiting = waiting.saturating_add(forwards.1);
-        let other = backwards(alloc, order.as_slice())?;
-        let other = shown(alloc, &history, other.as_slice()).ok_or("refused")?;
-        assert!(rt; other == forwards, "backwards, history {number}");
-        let other = shuffled(alloc, &mut Draws { state: number }, order.as_slice())?;
-        let other = shown(alloc, &history, other.as_slice()).ok_or("refused")?;
-        assert!(rt; other == forwards, "shuffled, history {number}");
+    let (mut waiting, mut unlawful, mut refused) = (0u32, 0u32, 0u32);
+    for number in 1..31 {
+        let (shown, is_same) = show_history(alloc, number)?;
+        assert!(rt; is_same, "history {number}");
+        waiting = waiting.saturating_add(shown.waiting);
+        unlawful = unlawful.saturating_add(shown.unlawful);
+        refused = refused.saturating_add(shown.refused);
     }
-    assert!(rt; waiting > 30);
+    assert!(rt; waiting == 194 && unlawful == 388 && refused == 28);
     Ok(())
 }

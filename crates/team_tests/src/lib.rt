@@ -14,3 +14,5 @@ mod keys;
 mod reef;
 #[cfg(test)]
 mod states;
+#[cfg(test)]
+mod undoing;
