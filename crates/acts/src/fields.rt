@@ -2,15 +2,15 @@
 ghost use Rattle.std.specs.Prelude.{◌≡◌, ℕ, List, IfOk};
 ghost use Rattle.tg_text.specs.Reading.{Reads};
 ghost use Rattle.tg_text.specs.KeySpelling.{spell_scope};
-ghost use Rattle.tg_text.specs.Spelling.{AreBytes, IsHash, IsPublicKey, IsTitle, number_at, spell_base64, spell_decimal, spell_hex};
+ghost use Rattle.tg_text.specs.Spelling.{AreBytes, IsHash, IsPublicKey, IsTitle, spell_base64, spell_decimal, spell_hex};
 ghost use Rattle.acts.specs.ActText.{IsInviteKey, IsName, IsRotated, IsTime, IsUses, spell_kind};
 ghost use Rattle.acts.specs.Fields.{AreTwo, IsDeviceByProof, IsSealByProof, spell_device_by_proof, spell_seal_by_proof, spell_text, spell_two};
 
 use crate::entry::InviteKind;
 use std::alloc::Global;
 use tg_text::{
-    Bytes, Memory, PublicKey, RoleName, Scope, Title, UserName, read_base64, read_decimal,
-    read_hex32, split_once,
+    Bytes, Memory, PublicKey, RoleName, Scope, Title, UserName, number_at, read_base64,
+    read_decimal, read_hex32, split_once,
 };
 
 pub(crate) fn read_user(text: &[u8]) -> Option<UserName>
@@ -58,15 +58,11 @@ fn read_invite_key(text: &[u8]) -> Option<PublicKey>
     ensures { Reads IsInviteKey spell_base64 text.now result }
 {
     let key = PublicKey::read(text)?;
-    if lms_type(&key) == 5 { Some(key) } else { None }
-}
-
-// The number that a key begins with.
-fn lms_type(key: &PublicKey) -> u32
-    ensures { result ≡ number_at 0 key.now }
-{
-    let bytes = &key.0;
-    u32::from_be_bytes([bytes[0], bytes[1], bytes[2], bytes[3]])
+    if number_at(key.as_slice(), 0) == 5 {
+        Some(key)
+    } else {
+        None
+    }
 }
 
 fn read_uses(text: &[u8]) -> Option<u32>

@@ -5,7 +5,7 @@ use Rattle.std.proofs.lemmas.Bool.{cases_eq, eq-eqb, ne_eqb}
 use Rattle.std.proofs.lemmas.List.FromFn.{length-range_with_len}
 use Rattle.std.proofs.Math.Nat.{eq-or-lt_of_le}
 use Rattle.team_sets.specs.Members.{IsIn}
-use Rattle.team_sets.proofs.Ancestors.{filter_alike}
+use Rattle.team_sets.proofs.Lists.{filter_alike}
 use Rattle.ancestry.specs.Positions.{Parents, comes_before, has_all_before, past_of}
 use Rattle.ancestry.proofs.Nodes.{AreFirst}
 use Rattle.ancestry.proofs.Pasts.{range-within, smaller}

@@ -7,7 +7,7 @@ use Rattle.std.proofs.lemmas.List.{get_or-replicate, get_or-set_same, get_or-set
 use Rattle.std.proofs.lemmas.List.Elements.{filter-append}
 use Rattle.std.proofs.lemmas.List.Folds.{list_any-append}
 use Rattle.team_sets.specs.Members.{IsIn}
-use Rattle.team_sets.proofs.Ancestors.{filter_alike}
+use Rattle.team_sets.proofs.Lists.{filter_alike}
 use Rattle.team_sets.proofs.OrderLeast.{of_filter}
 use Rattle.team_sets.proofs.Pasts.{any_of}
 use Rattle.team_sets.proofs.SameSet.{same_bools}

@@ -9,7 +9,8 @@ use Rattle.team_sets.specs.Names.{has_name, same_name}
 use Rattle.team_sets.specs.Members.{IsIn}
 use Rattle.team_sets.specs.Ancestry.{height, is_before, named}
 use Rattle.team_sets.proofs.Agree.{same_ancestors}
-use Rattle.team_sets.proofs.Ancestors.{all_of, filter_alike, unrolled}
+use Rattle.team_sets.proofs.Ancestors.{all_of, unrolled}
+use Rattle.team_sets.proofs.Lists.{filter_alike}
 use Rattle.team_sets.proofs.Heights.{same_heights}
 use Rattle.team_sets.proofs.OrderLeast.{in_filter, of_filter}
 use Rattle.team_sets.proofs.Parts.{has_of_in}

@@ -1,12 +1,12 @@
 -- What is owed where devices alone have keys.
 use Rattle.std.proofs.Common.{◌≡◌, Bool, true, false, not, ◌&&◌, List, [], ◌∷◌, map, filter, flat_map, refl, sym, ◌∙◌, ap, append-nil, subst, inl, inr, ◌⊎◌}
-use Rattle.std.proofs.lemmas.Bool.{false≢true, and_parts, not-true}
+use Rattle.std.proofs.lemmas.Bool.{false_from_ne_true, false≢true, and_parts, not-true}
 use Rattle.team_sets.specs.Names.{Name}
 use Rattle.team_sets.specs.Members.{IsIn}
 use Rattle.team_sets.specs.Closure.{has, Reaches, is_given, follows}
 use Rattle.team_sets.proofs.Agree.{any_in}
-use Rattle.team_sets.proofs.Ancestors.{filter_alike}
 use Rattle.team_sets.proofs.Closures.{closure-reaches}
+use Rattle.team_sets.proofs.Lists.{filter_alike}
 use Rattle.team_sets.proofs.OrderLeast.{in_filter, of_filter}
 use Rattle.tg_text.specs.declared.keys.Scope.{Scope}
 use Rattle.tg_text.specs.declared.keys.Scope.TheVariants.{Team, Role, User, Device}
@@ -30,11 +30,6 @@ none p (x ∷ xs) each = rw (each x (inl refl)) (none p xs (λ y k. each y (inr 
 none-flat : {A B : Type 0} (f : A → List B) (xs : List A) → ((x : A) → IsIn x xs → f x ≡ []) → flat_map f xs ≡ []
 none-flat f [] each = refl
 none-flat f (x ∷ xs) each = rw (each x (inl refl)) (none-flat f xs (λ y k. each y (inr k)))
-
--- what can't be true is false
-refuted : (b : Bool) → (b ≡ true → ⊥) → b ≡ false
-refuted true h = absurd (h refl)
-refuted false h = refl
 
 negated : (b : Bool) → false ≡ not b → b ≡ true
 negated true h = refl
@@ -100,7 +95,7 @@ module _ (t : Table) (law : IsKeyTable t) (alone : HasDeviceKeysAlone t) where
   none-tainted = ap (map _) (none (is_tainted t) (current_keys t) clean)
     where
       clean : (k : KeyId) → IsIn k (current_keys t) → is_tainted t k ≡ false
-      clean k j = refuted (is_tainted t k) (λ h. false≢true (sym (leaked-dead k (of-reach (leaked t) k h)) ∙ (of-device k j).live))
+      clean k j = false_from_ne_true (is_tainted t k) (λ h. false≢true (sym (leaked-dead k (of-reach (leaked t) k h)) ∙ (of-device k j).live))
 
   -- a device is entitled to no other device's scope
   own-alone : (d : Name) (s : Scope) → is_device s ≡ true → Reaches (scope_arrows t) (filter (same_scope (Device d)) t.scopes) s → Device d ≡ s
@@ -108,7 +103,7 @@ module _ (t : Table) (law : IsKeyTable t) (alone : HasDeviceKeysAlone t) where
   own-alone d _ e (follows x y k r) = absurd (none-to-device x y (law.leads x y (of_arrows t.allowed t.scopes (x, y) t.scopes k).0) e)
 
   none-unreached : (k : KeyId) → IsIn k (current_keys t) → unreached_of t (device_names t) k ≡ []
-  none-unreached k j = ap (map _) (none (is_unreached t k) (device_names t) (λ d i. refuted (is_unreached t k d) (reached d)))
+  none-unreached k j = ap (map _) (none (is_unreached t k) (device_names t) (λ d i. false_from_ne_true (is_unreached t k d) (reached d)))
     where
       reached : (d : Name) → is_unreached t k d ≡ true → ⊥
       reached d h =

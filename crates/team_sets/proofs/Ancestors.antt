@@ -13,6 +13,7 @@ use Rattle.team_sets.proofs.OrderLeast.{in_filter, of_filter, order_laws, has_na
 use Rattle.team_sets.proofs.Pasts.{all_at, any_of, reached_placed}
 use Rattle.team_sets.proofs.Parts.{order-part}
 use Rattle.team_sets.proofs.Agree.{any_in, parent_placed, same_answer, same_ancestors}
+use Rattle.team_sets.proofs.Lists.{filter_alike}
 
 module _ {A : Type 0} where
   pub all_of : (P : A → Type 0) (xs : List A) → ((x : A) → IsIn x xs → P x) → AllByRecursion P xs
@@ -29,14 +30,6 @@ module _ {A : Type 0} where
   in_at [] k x e = absurd (let bad : ◌≡◌ {A = Option A} None (Some x) = e in cc)
   in_at (y ∷ ys) zero x e = inl (let same : y ≡ x = cc in same)
   in_at (y ∷ ys) (suc k) x e = inr (in_at ys k x e)
-
-  pub filter_alike : (p q : A → Bool) (xs : List A) → ((x : A) → IsIn x xs → p x ≡ q x) → filter p xs ≡ filter q xs
-  filter_alike p q [] h = refl
-  filter_alike p q (x ∷ xs) h = rw (h x (inl refl)) (go (q x) (filter_alike p q xs (λ y k. h y (inr k))))
-    where
-      go : (b : Bool) → filter p xs ≡ filter q xs → cond b (x ∷ filter p xs) (filter p xs) ≡ cond b (x ∷ filter q xs) (filter q xs)
-      go true e = ap (λ l. x ∷ l) e
-      go false e = e
 
   pub filter_filter : (p q : A → Bool) (xs : List A) → ((x : A) → q x ≡ true → IsIn x xs → p x ≡ true) → filter q (filter p xs) ≡ filter q xs
   filter_filter p q [] h = refl

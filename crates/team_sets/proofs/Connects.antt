@@ -11,7 +11,8 @@ use Rattle.team_sets.specs.Insertion.{is_parent_of}
 use Rattle.team_sets.specs.ArrivalLaws.{LeastIsByName, ConnectsNext, NextAfter, AllConnected, StaysConnected}
 use Rattle.team_sets.proofs.OrderLeast.{least_in, least_none, least_below, is_left, length-filter-le, has_name-placed}
 use Rattle.team_sets.proofs.Agree.{same_answer}
-use Rattle.team_sets.proofs.Parts.{filter_end, filter_none, in_turn-order, in_turn-unique, name_lt-both}
+use Rattle.team_sets.proofs.Lists.{filter_end}
+use Rattle.team_sets.proofs.Parts.{filter_none, in_turn-order, in_turn-unique, name_lt-both}
 use Rattle.team_sets.proofs.Pasts.{in_more}
 
 pub same_name-sym : (a b : Name) → same_name a b ≡ same_name b a
@@ -115,7 +116,7 @@ module _ {A : Type 0} (name : A → Name) (prev : A → List Name) where
   pub stays_connected : (links placed : List A) (x : A) → AllConnected name prev links placed → StaysConnected name prev links placed x
   stays_connected links placed x none = record {
     waits = λ h y k. waits h y (in_more links x y k);
-    alone = λ h. filter_end name prev (is_next name prev placed) links x true h ∙ ap (λ l. l ++ x ∷ []) (filter_none name prev (is_next name prev placed) links none);
+    alone = λ h. filter_end (is_next name prev placed) links x true h ∙ ap (λ l. l ++ x ∷ []) (filter_none name prev (is_next name prev placed) links none);
     children = λ y k next. children y (in_more links x y k) next ((next_after placed x y).was next);
   }
     where

@@ -9,11 +9,11 @@ use Rattle.team_sets.specs.Order.{least, is_next, order, names}
 use Rattle.team_sets.specs.OrderLaws.{IsSet, IsArrangement, IsChosenInTurn, NamesDiffer, ParentsFirst}
 use Rattle.team_sets.specs.Insertion.{is_parent_of, place_in}
 use Rattle.team_sets.specs.InsertionLaws.{ComesConnected}
-use Rattle.team_sets.proofs.OrderLeast.{in_filter, of_filter, least_none, least_below, is_chosen, has_name-placed, name_lt-asym, name_lt-irrefl, name_le-trans, order_laws, or_false}
+use Rattle.team_sets.proofs.OrderLeast.{in_filter, of_filter, least_none, least_below, is_chosen, has_name-placed, name_lt-asym, name_lt-irrefl, name_le-trans, order_laws}
+use Rattle.team_sets.proofs.Lists.{filter_alike, filter_end, or_false}
 use Rattle.team_sets.proofs.Pasts.{all_at, all_names, any_of, in_more, one_named}
 use Rattle.team_sets.proofs.Agree.{any_in}
-use Rattle.team_sets.proofs.Parts.{filter_end, has_of_in, in_turn, in_turn-unique, list_all-alike, name_in}
-use Rattle.team_sets.proofs.Stays.{filter_alike}
+use Rattle.team_sets.proofs.Parts.{has_of_in, in_turn, in_turn-unique, list_all-alike, name_in}
 use Rattle.team_sets.proofs.ConnectedLaw.{all_of_each}
 use Rattle.team_sets.proofs.Distinct.{apart, distinct-differ}
 use Rattle.team_sets.proofs.Connects.{least_is, next_from, next_parts}
@@ -89,7 +89,7 @@ module _ {A : Type 0} (name : A → Name) (prev : A → List Name) where
     -- once x stands, the others follow as they did without it
     candidates_same : (placed others : List A) → IsWith placed others → filter (is_next name prev others) (links ++ x ∷ []) ≡ filter (is_next name prev placed) links
     candidates_same placed others w =
-        filter_end name prev (is_next name prev others) links x false
+        filter_end (is_next name prev others) links x false
         (and_left (not (has_name (names name others) (name x))) (list_all (has_name (names name others)) (prev x)) (not_from_true (has_name (names name others) (name x)) w.here))
         ∙ append-nil (filter (is_next name prev others) links)
         ∙ filter_alike (is_next name prev others) (is_next name prev placed) links (next_same placed others w)
@@ -148,7 +148,7 @@ module _ {A : Type 0} (name : A → Name) (prev : A → List Name) where
         → IsChosenInTurn name prev (links ++ x ∷ []) placed (place_in name prev x rest)
     put_turn placed [] h new full =
         let ready = ready_x placed [] new full refl in (
-          ap (λ l. least name l) (filter_end name prev (is_next name prev placed) links x true ready ∙ ap (λ l. l ++ x ∷ []) (least_none name (filter (is_next name prev placed) links) h)),
+          ap (λ l. least name l) (filter_end (is_next name prev placed) links x true ready ∙ ap (λ l. l ++ x ∷ []) (least_none name (filter (is_next name prev placed) links) h)),
           ap (λ l. least name l) (candidates_same placed (placed ++ x ∷ []) (with_one placed)) ∙ h,
         )
     put_turn placed (y ∷ ys) h new full =

@@ -8,6 +8,7 @@ pub mod Decisions
 pub mod Distinct
 pub mod Heights
 pub mod Inserts
+pub mod Lists
 pub mod OrderLeast
 pub mod OrderSame
 pub mod Parts

@@ -10,6 +10,7 @@ use Rattle.team_sets.specs.Names.{Name, name_lt, has_name, same_name}
 use Rattle.team_sets.specs.Members.{IsIn}
 use Rattle.team_sets.specs.Order.{lesser, least, is_next, order_after, order, names}
 use Rattle.team_sets.specs.OrderLaws.{names_le, IsArrangement, NamesDiffer}
+use Rattle.team_sets.proofs.Lists.{or_assoc, or_false}
 
 module _ {A : Type 0} where
   pub in_filter : (p : A → Bool) (x : A) (xs : List A) → IsIn x xs → p x ≡ true → IsIn x (filter p xs)
@@ -54,14 +55,6 @@ module _ {A : Type 0} where
       go true d false g less = absurd (false≢true (sym g ∙ h y d))
       go false d true g less = omega arith
       go false d false g less = less
-
-pub or_false : (b : Bool) → (b || false) ≡ b
-or_false true = refl
-or_false false = refl
-
-or_assoc : (a b c : Bool) → ((a || b) || c) ≡ (a || (b || c))
-or_assoc true b c = refl
-or_assoc false b c = refl
 
 -- a test that nothing of an empty list passes is false
 pub false_where_none : {A : Type 0} (kept : List A) (x : A) (b : Bool) → length kept ≤ 0 → (b ≡ true → IsIn x kept) → b ≡ false

@@ -14,7 +14,8 @@ use Rattle.team_sets.specs.Order.{least, is_next, order_after, order, names}
 use Rattle.team_sets.specs.OrderLaws.{IsChosenInTurn, NamesDiffer}
 use Rattle.team_sets.specs.PartLaws.{HasParents}
 use Rattle.team_sets.proofs.OrderLeast.{in_filter, of_filter, least_in, least_none, least_below, is_left, is_chosen, left-fewer, length-filter-le, false_where_none}
-use Rattle.team_sets.proofs.Pasts.{all_at, one_named}
+use Rattle.team_sets.proofs.Lists.{filter_end}
+use Rattle.team_sets.proofs.Pasts.{all_at, all_more, one_named}
 
 -- two tests that imply each other give the same answer
 alike : (s t : Bool) → (s ≡ true → t ≡ true) → (t ≡ true → s ≡ true) → s ≡ t
@@ -93,20 +94,6 @@ module _ {A : Type 0} (name : A → Name) (prev : A → List Name) where
       go false is true e f = rw is e
       go false is false e f = e
 
-  pub filter_end : (p : A → Bool) (xs : List A) (x : A) (b : Bool) → p x ≡ b → filter p (xs ++ x ∷ []) ≡ filter p xs ++ cond b (x ∷ []) []
-  filter_end p [] x true e = rw e refl
-  filter_end p [] x false e = rw e refl
-  filter_end p (y ∷ ys) x b e = go (p y) (filter_end p ys x b e)
-    where
-      go : (c : Bool) → filter p (ys ++ x ∷ []) ≡ filter p ys ++ cond b (x ∷ []) []
-          → cond c (y ∷ filter p (ys ++ x ∷ [])) (filter p (ys ++ x ∷ [])) ≡ cond c (y ∷ filter p ys) (filter p ys) ++ cond b (x ∷ []) []
-      go true h = ap (λ l. y ∷ l) h
-      go false h = h
-
-  all_end : (P : A → Type 0) (xs : List A) (x : A) → AllByRecursion P xs → P x → AllByRecursion P (xs ++ x ∷ [])
-  all_end P [] x all h = (h, tt)
-  all_end P (y ∷ ys) x all h = (all.0, all_end P ys x all.1 h)
-
   module _ (links : List A) (part : A → Bool) (differ : NamesDiffer name links) (closed : HasParents name prev links part) where
     -- a name of a link of the part stands in a list exactly where it stands in its part
     kept_name : (placed : List A) → AllByRecursion (λ x. IsIn x links) placed → (m : Name) → ((y : A) → IsIn y links → name y ≡ m → part y ≡ true)
@@ -147,7 +134,7 @@ module _ {A : Type 0} (name : A → Name) (prev : A → List Name) where
     cut_in_turn : (list placed : List A) → AllByRecursion (λ x. IsIn x links) placed → IsChosenInTurn name prev links placed list
         → IsChosenInTurn name prev (filter part links) (filter part placed) (filter part list)
     cut_in_turn [] placed of h = rw (same_candidates placed of, least_none name (filter (is_next name prev placed) links) h) refl
-    cut_in_turn (x ∷ xs) placed of h = go (part x) refl (cut_in_turn xs (placed ++ x ∷ []) (all_end (λ z. IsIn z links) placed x of in_links) h.1)
+    cut_in_turn (x ∷ xs) placed of h = go (part x) refl (cut_in_turn xs (placed ++ x ∷ []) (all_more (λ z. IsIn z links) placed x of in_links) h.1)
       where
         in_links : IsIn x links
         in_links = (of_filter (is_next name prev placed) x links (least_in name (filter (is_next name prev placed) links) x h.0)).0

@@ -8,9 +8,10 @@ use Rattle.team_sets.specs.Ancestry.{height, is_before, past}
 use Rattle.team_sets.specs.OrderLaws.{NamesDiffer}
 use Rattle.team_sets.specs.WaitingLaws.{HaveSameConnected, WaitingHaveNoEffect}
 use Rattle.team_sets.proofs.Agree.{same_ancestors}
-use Rattle.team_sets.proofs.Ancestors.{filter_alike, in_links, of_order, order_first, order-le, order-past}
+use Rattle.team_sets.proofs.Ancestors.{in_links, of_order, order_first, order-le, order-past}
 use Rattle.team_sets.proofs.Arrivals.{arranged_order, first_set}
 use Rattle.team_sets.proofs.Heights.{same_heights}
+use Rattle.team_sets.proofs.Lists.{filter_alike}
 use Rattle.team_sets.proofs.OrderLeast.{order_laws}
 
 module _ {A : Type 0} (name : A → Name) (prev : A → List Name) where

@@ -5,16 +5,12 @@ use Rattle.team_sets.specs.Members.{IsIn}
 use Rattle.team_sets.specs.Names.{ascending, put_in}
 use Rattle.team_sets.specs.Settlement.{conflicts, decided_by, decision, settle, standing, struck, lost}
 use Rattle.team_sets.specs.SettlementLaws.{RankAlike, SettleAlike}
-use Rattle.team_sets.proofs.Ancestors.{filter_alike}
 use Rattle.team_sets.proofs.Decisions.{find_of, standing-members}
+use Rattle.team_sets.proofs.Lists.{any_alike, filter_alike}
 use Rattle.team_sets.proofs.OrderLeast.{of_filter}
 use Rattle.team_sets.proofs.Sorted.{ascending-members, put_to}
 
 module _ {A : Type 0} where
-  pub any_alike : (p q : A → Bool) (xs : List A) → ((x : A) → IsIn x xs → p x ≡ q x) → list_any p xs ≡ list_any q xs
-  any_alike p q [] h = refl
-  any_alike p q (x ∷ xs) h = rw (h x (inl refl)) (ap (λ b. q x || b) (any_alike p q xs (λ y k. h y (inr k))))
-
   pub find_alike : (p q : A → Bool) (xs : List A) → ((x : A) → IsIn x xs → p x ≡ q x) → find p xs ≡ find q xs
   find_alike p q [] h = refl
   find_alike p q (x ∷ xs) h = rw (h x (inl refl)) (ap (λ o. cond (q x) (Some x) o) (find_alike p q xs (λ y k. h y (inr k))))

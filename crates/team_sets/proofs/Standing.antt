@@ -6,6 +6,7 @@ use Rattle.team_sets.specs.Names.{ascending, put_in}
 use Rattle.team_sets.specs.Settlement.{conflicts, settle, standing, stand_next}
 use Rattle.team_sets.specs.SettlementLaws.{NoStrikeAcross}
 use Rattle.team_sets.specs.Members.{IsIn}
+use Rattle.team_sets.proofs.Lists.{any_end, filter_end}
 use Rattle.team_sets.proofs.Pasts.{in_more}
 
 module _ {A : Type 0} (senior strikes : A → A → Bool) where
@@ -20,24 +21,12 @@ module _ {A : Type 0} (senior strikes : A → A → Bool) where
       go true h = omega arith
       go false h = omega arith
 
-  any_more : (p : A → Bool) (xs : List A) (x : A) → list_any p (xs ++ x ∷ []) ≡ (list_any p xs || p x)
-  any_more p [] x = or_false (p x)
-    where
-      or_false : (b : Bool) → (b || false) ≡ b
-      or_false true = refl
-      or_false false = refl
-  any_more p (y ∷ ys) x = go (p y) (any_more p ys x)
-    where
-      go : (b : Bool) → list_any p (ys ++ x ∷ []) ≡ (list_any p ys || p x) → (b || list_any p (ys ++ x ∷ [])) ≡ ((b || list_any p ys) || p x)
-      go true h = refl
-      go false h = h
-
   filter_free : (stood : List A) (x : A) (xs : List A)
       → filter (λ y. not (conflicts senior strikes x y)) (filter (free stood) xs) ≡ filter (free (stood ++ x ∷ [])) xs
   unfolding free
   filter_free stood x [] = refl
   filter_free stood x (y ∷ ys) =
-      rw (any_more (λ s. conflicts senior strikes s y) stood x)
+      rw (any_end (λ s. conflicts senior strikes s y) stood x)
       (go (list_any (λ s. conflicts senior strikes s y) stood) (conflicts senior strikes x y) refl (filter_free stood x ys))
     where
       go : (a b : Bool) → conflicts senior strikes x y ≡ b → filter (λ z. not (conflicts senior strikes x z)) (filter (free stood) ys) ≡ filter (free (stood ++ x ∷ [])) ys
@@ -94,16 +83,6 @@ module _ {A : Type 0} (senior strikes : A → A → Bool) where
   standing-pass acts =
       let long : length acts ≡ length (ascending senior acts) = sym (length-fold acts [] ∙ zero-add (length acts)) in
       rw long (settle-pass (ascending senior acts))
-
-  filter_end : (part : A → Bool) (xs : List A) (x : A) (b : Bool) → part x ≡ b → filter part (xs ++ x ∷ []) ≡ filter part xs ++ cond b (x ∷ []) []
-  filter_end part [] x true e = rw e refl
-  filter_end part [] x false e = rw e refl
-  filter_end part (y ∷ ys) x b e = go (part y) (filter_end part ys x b e)
-    where
-      go : (c : Bool) → filter part (ys ++ x ∷ []) ≡ filter part ys ++ cond b (x ∷ []) []
-          → cond c (y ∷ filter part (ys ++ x ∷ [])) (filter part (ys ++ x ∷ [])) ≡ cond c (y ∷ filter part ys) (filter part ys) ++ cond b (x ∷ []) []
-      go true h = ap (λ l. y ∷ l) h
-      go false h = h
 
   -- a part of a list, in which no act of the part has a strike with the others
   module _ (part : A → Bool) (acts : List A) (across : NoStrikeAcross senior strikes part acts) where

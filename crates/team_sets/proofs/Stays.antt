@@ -9,29 +9,9 @@ use Rattle.std.specs.Option.{option_map_or}
 use Rattle.team_sets.specs.Order.{least, is_next, order_after, order, names}
 use Rattle.team_sets.specs.Ancestry.{named, is_before_within, is_before, past}
 use Rattle.team_sets.specs.OrderLaws.{ParentsFirst, NamesDiffer}
+use Rattle.team_sets.proofs.Lists.{any_alike, filter_alike, filter_end}
 use Rattle.team_sets.proofs.OrderLeast.{of_filter, order_laws}
 use Rattle.team_sets.proofs.Pasts.{all_at, all_more, all_names, one_named, reached_connected}
-
-module _ {A : Type 0} where
-  any_alike : (p q : A → Bool) (xs : List A) → ((x : A) → IsIn x xs → p x ≡ q x) → list_any p xs ≡ list_any q xs
-  any_alike p q [] h = refl
-  any_alike p q (x ∷ xs) h = rw (h x (inl refl)) (ap (λ b. q x || b) (any_alike p q xs (λ y k. h y (inr k))))
-
-  pub filter_alike : (p q : A → Bool) (xs : List A) → ((x : A) → IsIn x xs → p x ≡ q x) → filter p xs ≡ filter q xs
-  filter_alike p q [] h = refl
-  filter_alike p q (x ∷ xs) h = rw (h x (inl refl)) (go (q x) (filter_alike p q xs (λ y k. h y (inr k))))
-    where
-      go : (b : Bool) → filter p xs ≡ filter q xs → cond b (x ∷ filter p xs) (filter p xs) ≡ cond b (x ∷ filter q xs) (filter q xs)
-      go true e = ap (λ l. x ∷ l) e
-      go false e = e
-
-  filter_end : (p : A → Bool) (xs : List A) (z : A) → p z ≡ false → filter p (xs ++ z ∷ []) ≡ filter p xs
-  filter_end p [] z e = rw e refl
-  filter_end p (y ∷ ys) z e = go (p y) (filter_end p ys z e)
-    where
-      go : (c : Bool) → filter p (ys ++ z ∷ []) ≡ filter p ys → cond c (y ∷ filter p (ys ++ z ∷ [])) (filter p (ys ++ z ∷ [])) ≡ cond c (y ∷ filter p ys) (filter p ys)
-      go true h = ap (λ l. y ∷ l) h
-      go false h = h
 
 module _ {A : Type 0} (name : A → Name) (prev : A → List Name) (links : List A) (z : A) (differ : NamesDiffer name links) (fresh : has_name (names name links) (name z) ≡ false) where
   -- the same ancestors by any number of steps that is large enough, with z and without it
@@ -59,7 +39,7 @@ module _ {A : Type 0} (name : A → Name) (prev : A → List Name) (links : List
   settled_next placed of ready x next zero m a h k = absurd (omega arith)
   settled_next placed of ready x next (suc n) zero a h k = absurd (omega arith)
   settled_next placed of ready x next (suc n) (suc m) a h k =
-      ap (λ l. has_name (prev x) a || list_any (is_before_within name prev n (links ++ z ∷ []) a) l) (filter_end (λ y. has_name (prev x) (name y)) links z (no_parent placed of x next))
+      ap (λ l. has_name (prev x) a || list_any (is_before_within name prev n (links ++ z ∷ []) a) l) (filter_end (λ y. has_name (prev x) (name y)) links z false (no_parent placed of x next) ∙ append-nil (named name prev links (prev x)))
       ∙ ap (λ b. has_name (prev x) a || b) (any_alike (is_before_within name prev n (links ++ z ∷ []) a) (is_before_within name prev m links a) (named name prev links (prev x)) each)
     where
       each : (p : A) → IsIn p (named name prev links (prev x)) → is_before_within name prev n (links ++ z ∷ []) a p ≡ is_before_within name prev m links a p
@@ -111,7 +91,8 @@ module _ {A : Type 0} (name : A → Name) (prev : A → List Name) (links : List
 
   pub past-stays : (x : A) → IsIn x (order name prev links) → past name prev (links ++ z ∷ []) x ≡ past name prev links x
   past-stays x k =
-      filter_end (λ y. is_before name prev (links ++ z ∷ []) (name y) x) links z (before-stays x k (name z) ∙ go (is_before name prev links (name z) x) refl)
+      filter_end (λ y. is_before name prev (links ++ z ∷ []) (name y) x) links z false (before-stays x k (name z) ∙ go (is_before name prev links (name z) x) refl)
+      ∙ append-nil (filter (λ y. is_before name prev (links ++ z ∷ []) (name y) x) links)
       ∙ filter_alike (λ y. is_before name prev (links ++ z ∷ []) (name y) x) (λ y. is_before name prev links (name y) x) links (λ y j. before-stays x k (name y))
     where
       go : (b : Bool) → is_before name prev links (name z) x ≡ b → b ≡ false

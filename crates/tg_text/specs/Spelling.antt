@@ -55,8 +55,8 @@ pub record IsTitle (bytes : List ℕ) : Type 0 where
   pub text : IsUtf8 bytes
   pub printing : IsTrue (list_all is_printing bytes)
 
--- The big-endian number of four bytes at a place.
-abbrev pub number_at : ℕ → List ℕ → ℕ
+-- The number that the four bytes from a place on spell, the highest first.
+unfoldable pub number_at : ℕ → List ℕ → ℕ
 number_at i bytes = from_be_bytes w32 (take 4 (drop i bytes))
 
 -- Whether a list has the form of a public key: 56 bytes that begin with an LMS type 5 to 9 and an LM-OTS type 1 to 4.

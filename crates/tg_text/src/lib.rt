@@ -15,6 +15,7 @@ mod line_writing;
 mod lines;
 mod memory;
 mod names;
+mod numbers;
 mod public_key;
 mod scope_text;
 mod text;
@@ -34,6 +35,7 @@ pub use line_writing::{write_base64_line, write_decimal_line, write_hex_line, wr
 pub use lines::{Lines, split_once, strip_front};
 pub use memory::Memory;
 pub use names::{DeviceId, LinkName, PublicKey};
+pub use numbers::number_at;
 pub use title::Title;
 pub use user_name::{RoleName, UserName};
 pub use word::Word;

@@ -1,8 +1,9 @@
-ghost use Rattle.std.specs.Prelude.{◌≡◌, ◌+◌, ◌≤◌, ◌↔◌, IsTrue, ℕ, List, Some, length};
+ghost use Rattle.std.specs.Prelude.{◌≡◌, ◌↔◌, IsTrue, ℕ, List, Some, length};
 ghost use Rattle.tg_text.specs.Reading.{Reads};
-ghost use Rattle.tg_text.specs.Spelling.{AreBytes, IsPublicKey, is_public_key, number_at, spell_base64};
+ghost use Rattle.tg_text.specs.Spelling.{AreBytes, IsPublicKey, is_public_key, spell_base64};
 
 use crate::names::PublicKey;
+use crate::numbers::number_at;
 use base64::engine::general_purpose::STANDARD;
 
 impl PublicKey {
@@ -44,15 +45,7 @@ fn is_spelled(key: &[u8], text: &[u8]) -> bool
 fn is_public_key(key: &PublicKey) -> bool
     ensures { result ≡ is_public_key key.now }
 {
-    let lms = number_at(&key.0, 0);
-    let ots = number_at(&key.0, 4);
+    let lms = number_at(key.as_slice(), 0);
+    let ots = number_at(key.as_slice(), 4);
     5 <= lms && lms <= 9 && 1 <= ots && ots <= 4
-}
-
-// The big-endian number of four bytes at a place.
-fn number_at(bytes: &[u8; 56], at: usize) -> u32
-    requires { at + 4 ≤ 56 }
-    ensures { result ≡ number_at at bytes.now }
-{
-    u32::from_be_bytes([bytes[at], bytes[at + 1], bytes[at + 2], bytes[at + 3]])
 }
