@@ -6,7 +6,8 @@ use Rattle.lms_ots.specs.declared.kind.OtsKind.{OtsKind}
 use Rattle.lms_ots.specs.Kinds.{ots_row, ots_length}
 use Rattle.lms_ots.specs.Digits.{u32str, coef, message_digits}
 use Rattle.lms_ots.specs.Chains.{chain, secret, secrets_from, randomizer}
-use Rattle.lms_ots.specs.Ots.{tops, starts, ends, pieces, ots_key, ots_signature, candidate, number_at, is_ots}
+use Rattle.lms_ots.specs.Ots.{tops, starts, ends, pieces, ots_key, ots_signature, candidate, is_ots}
+use Rattle.tg_text.specs.Spelling.{number_at}
 use Rattle.sha2.proofs.Facts256.{length-sha256}
 use Rattle.std.proofs.lemmas.Nat.{from_be_bytes-to_be_bytes_4}
 use Rattle.lms_ots.proofs.Buffers.{length-u32str}

@@ -1,7 +1,7 @@
 -- One-time keys and signatures of RFC 8554 sections 4.3, 4.5 and 4.6.
 use Rattle.std.specs.Prelude.{ℕ, zero, suc, ◌+◌, ◌-◌, ◌^◌, Bool, ◌&&◌, ◌==◌, List, [], ◌∷◌, ◌++◌, length, take, drop}
-use Rattle.std.specs.Int.{w32, from_be_bytes}
 use Rattle.sha2.specs.Sha256.{sha256}
+use Rattle.tg_text.specs.Spelling.{number_at}
 use Rattle.lms_ots.specs.declared.kind.OtsKind.{OtsKind}
 use Rattle.lms_ots.specs.Kinds.{ots_row, ots_length}
 use Rattle.lms_ots.specs.Digits.{u32str, u16str, d_pblc, coef, message_digits}
@@ -48,10 +48,6 @@ unfoldable pub candidate : OtsKind → List ℕ → ℕ → List ℕ → List �
 candidate kind id q message signature =
     sha256 (id ++ u32str q ++ u16str d_pblc
     ++ ends kind id q (message_digits kind id q (take 32 (drop 4 signature)) message) 0 (pieces (ots_row kind).p (drop 36 signature)))
-
--- the number of four bytes at i
-unfoldable pub number_at : ℕ → List ℕ → ℕ
-number_at i bytes = from_be_bytes w32 (take 4 (drop i bytes))
 
 -- whether the bytes have the length and the type number of a signature of this kind
 abbrev pub is_ots : OtsKind → List ℕ → Bool

@@ -26,4 +26,4 @@ pub use chains::{chain, fill_secrets, front_of, ots_random, ots_secret};
 pub use digits::{checksum, coef};
 pub use kind::OtsKind;
 pub use rows::worked_values;
-pub use signatures::{array_at, number_at, ots_candidate, ots_public, ots_sign, public_of_secrets};
+pub use signatures::{array_at, ots_candidate, ots_public, ots_sign, public_of_secrets};

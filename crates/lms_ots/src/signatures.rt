@@ -2,12 +2,13 @@ ghost use Rattle.std.specs.Prelude.{◌≡◌, ◌+◌, ◌-◌, ◌*◌, ◌^�
 ghost use Rattle.sha2.specs.Sha256.{sha256};
 ghost use Rattle.lms_ots.specs.Kinds.{ots_row, ots_length};
 ghost use Rattle.lms_ots.specs.Digits.{u32str, u16str, d_pblc, coef};
-ghost use Rattle.lms_ots.specs.Ots.{ots_key, ots_public, ots_signature, candidate, is_ots, number_at, starts, ends, pieces};
+ghost use Rattle.lms_ots.specs.Ots.{ots_key, ots_public, ots_signature, candidate, is_ots, starts, ends, pieces};
 
 use crate::chains::{chain, fill_secrets, front_of};
 use crate::digits::{coef, message_digits};
 use crate::kind::OtsKind;
 use sha2::{Digest, Sha256};
+use tg_text::number_at;
 
 const D_PBLC: u16 = 0x8080;
 
@@ -72,16 +73,6 @@ pub fn ots_candidate(
     }
     let digits = message_digits(kind, id, q, &signature[4..36], message);
     Some(key_of_starts(kind, id, q, &digits, signature.split_at(36).1))
-}
-
-/// The number that four bytes spell, the highest first (RFC 8554 section 3.1).
-pub fn number_at(bytes: &[u8], at: usize) -> u32
-    requires { at + 4 ≤ length bytes.now }
-    ensures { result ≡ number_at at bytes.now }
-{
-    let mut four = [0; 4];
-    four.copy_from_slice(&bytes[at..at + 4]);
-    u32::from_be_bytes(four)
 }
 
 fn write_head(kind: OtsKind, c: &[u8; 32], out: &mut [u8])

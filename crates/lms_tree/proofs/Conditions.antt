@@ -5,7 +5,8 @@ use Rattle.std.proofs.lemmas.Bool.{eqb-true, ltb-true, ne_eqb, eq-eqb, le-ltb, l
 use Rattle.std.proofs.lemmas.List.{take-take, length-take-le}
 use Rattle.lms_ots.specs.declared.kind.OtsKind.{OtsKind}
 use Rattle.lms_ots.specs.Kinds.{ots_row, ots_kind, ots_length}
-use Rattle.lms_ots.specs.Ots.{number_at, is_ots}
+use Rattle.lms_ots.specs.Ots.{is_ots}
+use Rattle.tg_text.specs.Spelling.{number_at}
 use Rattle.lms_tree.specs.declared.lms_kind.LmsKind.{LmsKind}
 use Rattle.lms_tree.specs.declared.lms_kind.LmsKind.TheVariants.{H5, H10, H15, H20, H25}
 use Rattle.lms_tree.specs.LmsKinds.{lms_row, lms_kind, lms_length, leaves_of}

@@ -9,7 +9,8 @@ use Rattle.lms_ots.specs.declared.kind.OtsKind.{OtsKind}
 use Rattle.lms_ots.specs.declared.kind.OtsKind.TheVariants.{W1, W2, W4, W8}
 use Rattle.lms_ots.specs.Kinds.{ots_row, ots_kind, ots_length}
 use Rattle.lms_ots.specs.Digits.{u32str}
-use Rattle.lms_ots.specs.Ots.{candidate, number_at, is_ots}
+use Rattle.lms_ots.specs.Ots.{candidate, is_ots}
+use Rattle.tg_text.specs.Spelling.{number_at}
 use Rattle.lms_ots.proofs.Buffers.{length-u32str}
 use Rattle.lms_ots.proofs.Signed.{number_at-u32str}
 use Rattle.lms_tree.specs.declared.lms_kind.LmsKind.{LmsKind}

@@ -6,7 +6,8 @@ use Rattle.std.proofs.Math.Nat.{add-div_left, div-eq_of_lt}
 use Rattle.lms_ots.specs.Kinds.{ots_row}
 use Rattle.lms_ots.specs.Digits.{u32str}
 use Rattle.lms_ots.specs.Chains.{ots_secrets, randomizer}
-use Rattle.lms_ots.specs.Ots.{ots_public, candidate, number_at, is_ots}
+use Rattle.lms_ots.specs.Ots.{ots_public, candidate, is_ots}
+use Rattle.tg_text.specs.Spelling.{number_at}
 use Rattle.lms_ots.proofs.Buffers.{length-u32str}
 use Rattle.lms_ots.proofs.Signed.{form_of_signature, key_of_signature, secrets_sized, length-secrets_from, length-randomizer, number_at-u32str}
 use Rattle.lms_tree.specs.declared.tree_key.TreeKey.{TreeKey}

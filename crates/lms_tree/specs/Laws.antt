@@ -3,7 +3,8 @@ use Rattle.std.specs.Prelude.{◌≡◌, ◌↔◌, ◌<◌, ℕ, List, length, 
 use Rattle.std.specs.List.{AllByRecursion}
 use Rattle.lms_ots.specs.declared.kind.OtsKind.{OtsKind}
 use Rattle.lms_ots.specs.Kinds.{ots_row}
-use Rattle.lms_ots.specs.Ots.{ots_public, candidate, number_at, is_ots}
+use Rattle.lms_ots.specs.Ots.{ots_public, candidate, is_ots}
+use Rattle.tg_text.specs.Spelling.{number_at}
 use Rattle.lms_tree.specs.declared.lms_kind.LmsKind.{LmsKind}
 use Rattle.lms_tree.specs.declared.tree_key.TreeKey.{TreeKey}
 use Rattle.lms_tree.specs.LmsKinds.{lms_row, leaves_of}

@@ -4,7 +4,8 @@ use Rattle.std.specs.Option.{option_map_or}
 use Rattle.std.specs.Str.{bytes_eq}
 use Rattle.lms_ots.specs.declared.kind.OtsKind.{OtsKind}
 use Rattle.lms_ots.specs.Kinds.{ots_row, ots_kind, ots_length}
-use Rattle.lms_ots.specs.Ots.{candidate, pieces, number_at}
+use Rattle.lms_ots.specs.Ots.{candidate, pieces}
+use Rattle.tg_text.specs.Spelling.{number_at}
 use Rattle.lms_tree.specs.declared.lms_kind.LmsKind.{LmsKind}
 use Rattle.lms_tree.specs.LmsKinds.{lms_row, lms_kind, lms_length, leaves_of}
 use Rattle.lms_tree.specs.Nodes.{leaf_hash, inner_hash}

@@ -5,7 +5,8 @@ ghost use Rattle.lms_tree.specs.Verifying.{parent, climb, root_over, root_of, is
 
 use crate::lms_kind::LmsKind;
 use crate::nodes::{inner_hash, leaf_hash};
-use lms_ots::{OtsKind, array_at, number_at, ots_candidate};
+use lms_ots::{OtsKind, array_at, ots_candidate};
+use tg_text::number_at;
 
 /// Whether a signature of the message verifies under a public key (RFC 8554 section 5.4.2). Nothing is asked of the bytes.
 pub fn verify(public: &[u8], message: &[u8], signature: &[u8]) -> bool

@@ -1,7 +1,7 @@
 use Rattle.std.proofs.Common.{◌≡◌, ◌<◌, ◌==◌, false, length, ◌∙◌, refl, sym}
 use Rattle.std.proofs.lemmas.Bool.{eq-eqb, ne_eqb}
 use Rattle.lms_ots.specs.Kinds.{ots_row}
-use Rattle.lms_ots.specs.Ots.{number_at}
+use Rattle.tg_text.specs.Spelling.{number_at}
 use Rattle.lms_tree.specs.LmsKinds.{lms_length, leaves_of}
 use Rattle.lms_tree.proofs.Conditions.{wrong_length, wrong_leaf, types_left}
 use Rattle.lms_tree.proofs.verifying.is_signature.Goals as goal

@@ -1,7 +1,8 @@
 use Rattle.std.proofs.Common.{◌≡◌, ◌+◌, ◌-◌, ◌∙◌, refl, arith, take, drop}
 use Rattle.std.proofs.lemmas.Bool.{false≢true}
 use Rattle.lms_ots.specs.Kinds.{ots_length}
-use Rattle.lms_ots.specs.Ots.{candidate, number_at}
+use Rattle.lms_ots.specs.Ots.{candidate}
+use Rattle.tg_text.specs.Spelling.{number_at}
 use Rattle.lms_tree.specs.Verifying.{root_of}
 use Rattle.lms_tree.proofs.Conditions.{from_fits, within_is_ots}
 use Rattle.lms_tree.proofs.verifying.root_of.Goals as goal

@@ -1,6 +1,6 @@
 use Rattle.std.proofs.Common.{◌≡◌, ◌∙◌, Some, None, sym, ap}
 use Rattle.lms_ots.specs.Kinds.{ots_kind}
-use Rattle.lms_ots.specs.Ots.{number_at}
+use Rattle.tg_text.specs.Spelling.{number_at}
 use Rattle.lms_tree.specs.LmsKinds.{lms_kind}
 use Rattle.lms_tree.proofs.Conditions.{wrong_key, no_lms, no_ots, kinds_lead}
 use Rattle.lms_tree.proofs.verifying.verify.Goals as goal
