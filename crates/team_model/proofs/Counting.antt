@@ -1,104 +1,28 @@
--- The links that count are those of the resolved list that are permitted at their turn.
-use Rattle.std.proofs.Common.{◌≡◌, ◌↔◌, ℕ, ◌+◌, Bool, true, false, not, ◌&&◌, ◌||◌, cond, List, [], ◌∷◌, ◌++◌, append_assoc, append-nil, filter, map, take_while, length, Option, Some, None, is_none, refl, sym, ◌∙◌, ap, subst, inl, inr, one-add, arith}
+-- What holds of each link that counts.
+use Rattle.std.proofs.Common.{◌≡◌, ◌↔◌, Bool, true, false, not, ◌&&◌, ◌||◌, cond, List, [], ◌∷◌, map, Option, Some, None, is_none, refl, sym, ◌∙◌, ap, subst, inl, inr}
 use Rattle.std.specs.List.{list_any}
 use Rattle.std.specs.Option.{option_map_or}
 use Rattle.std.specs.Cmp.Lexicographic.{nat_list_eq_equiv}
 use Rattle.std.proofs.lemmas.Bool.{false≢true, and_from, and_parts, not-true, or_parts}
-use Rattle.std.proofs.lemmas.List.Sums.{fold-append}
 use Rattle.team_sets.specs.Names.{Name, same_name, has_name}
 use Rattle.team_sets.specs.Members.{IsIn}
-use Rattle.team_sets.specs.Order.{names}
-use Rattle.team_sets.specs.OrderLaws.{NamesDiffer, ParentsFirst}
+use Rattle.team_sets.specs.OrderLaws.{NamesDiffer}
 use Rattle.team_sets.specs.Settlement.{Decided, stands, struck, lost}
 use Rattle.team_sets.specs.SettlementLaws.{StandsAsDecided}
-use Rattle.team_sets.proofs.Ancestors.{filter_alike, in_links, new_names, order_first}
+use Rattle.team_sets.proofs.Ancestors.{in_links}
 use Rattle.team_sets.proofs.Decisions.{find_none, find_of, stands_as_decided}
 use Rattle.team_sets.proofs.OrderLeast.{in_filter, of_filter}
 use Rattle.team_sets.proofs.Parts.{name_in}
 use Rattle.team_sets.proofs.Pasts.{one_named}
 use Rattle.team_sets.proofs.Agree.{any_in}
-use Rattle.team_model.specs.State.{empty_state}
 use Rattle.team_model.specs.Strikes.{is_striking}
-use Rattle.team_model.specs.Counting.{counting_links, is_counting, permitted_from}
+use Rattle.team_model.specs.Counting.{is_counting}
 use Rattle.team_model.specs.CountingLaws.{CountsRightly}
 use Rattle.team_model.specs.Judging.{Rules, name_of, prev_of, order_of, is_senior, strikers, standing_strikers, stays, strikes_among, fold_team, lawful, resolved, unlawful_reason, before_turn, at_turn, lawful_verdict, striker_verdict, decision_in, first_striker, verdict}
 use Rattle.team_model.specs.declared.terms.Link.{Link}
 use Rattle.team_model.specs.declared.terms.Reason.{Reason}
 use Rattle.team_model.specs.declared.terms.Verdict.{Verdict}
 use Rattle.team_model.specs.declared.terms.Verdict.TheVariants.{Counts, Unlawful, Struck, Outranked, Refused, Waiting}
-
--- each of the list has a name that no link before it has
-abbrev AllNew : List Link → List Link → Type 0
-AllNew before [] = Unit {0}
-AllNew before (x ∷ xs) = (has_name (names name_of before) x.name ≡ false) × AllNew (before ++ x ∷ []) xs
-
-missing : (p : Link → Bool) (n : Name) (xs : List Link) → has_name (names name_of xs) n ≡ false → has_name (names name_of (filter p xs)) n ≡ false
-missing p n [] h = refl
-missing p n (x ∷ xs) h = go (p x) (or_parts (same_name x.name n) (has_name (names name_of xs) n) h) (missing p n xs)
-  where
-    go : (b : Bool) → (same_name x.name n ≡ false) × (has_name (names name_of xs) n ≡ false) → (has_name (names name_of xs) n ≡ false → has_name (names name_of (filter p xs)) n ≡ false)
-        → has_name (names name_of (cond b (x ∷ filter p xs) (filter p xs))) n ≡ false
-    go true h more = rw h.0 (more h.1)
-    go false h more = more h.1
-
-filter_end : (p : Link → Bool) (xs : List Link) (x : Link) (b : Bool) → p x ≡ b → filter p (xs ++ x ∷ []) ≡ filter p xs ++ cond b (x ∷ []) []
-filter_end p [] x true e = rw e refl
-filter_end p [] x false e = rw e refl
-filter_end p (y ∷ ys) x b e = go (p y) (filter_end p ys x b e)
-  where
-    go : (c : Bool) → filter p (ys ++ x ∷ []) ≡ filter p ys ++ cond b (x ∷ []) []
-        → cond c (y ∷ filter p (ys ++ x ∷ [])) (filter p (ys ++ x ∷ [])) ≡ cond c (y ∷ filter p ys) (filter p ys) ++ cond b (x ∷ []) []
-    go true h = ap (λ l. y ∷ l) h
-    go false h = h
-
-first_new : (placed list : List Link) → ParentsFirst name_of prev_of placed list → AllNew placed list
-first_new placed [] first = tt
-first_new placed (x ∷ xs) first = (new_names name_of prev_of placed (x ∷ xs) first x (inl refl), first_new (placed ++ x ∷ []) xs first.1)
-
-new_part : (p : Link → Bool) (placed list : List Link) → AllNew placed list → AllNew (filter p placed) (filter p list)
-new_part p placed [] new = tt
-new_part p placed (x ∷ xs) new = go (p x) refl (new_part p (placed ++ x ∷ []) xs new.1)
-  where
-    go : (b : Bool) → p x ≡ b → AllNew (filter p (placed ++ x ∷ [])) (filter p xs) → AllNew (filter p placed) (cond b (x ∷ filter p xs) (filter p xs))
-    go true e more = (missing p x.name placed new.0, subst (λ l. AllNew l (filter p xs)) (filter_end p placed x true e) more)
-    go false e more = subst (λ l. AllNew l (filter p xs)) (filter_end p placed x false e ∙ append-nil (filter p placed)) more
-
--- what stands before x is what it comes after
-turn_at : (before rest : List Link) (x : Link) → has_name (names name_of before) x.name ≡ false → take_while (λ y. not (same_name y.name x.name)) (before ++ x ∷ rest) ≡ before
-turn_at [] rest x new = rw (nat_list_eq_equiv.refl x.name) refl
-turn_at (y ∷ ys) rest x new =
-    let parts = or_parts (same_name y.name x.name) (has_name (names name_of ys) x.name) new in
-    rw (parts.0, one-add) (ap (λ l. y ∷ l) (turn_at ys rest x parts.1))
-
-module _ (rules : Rules) where
-  -- whether x is permitted in the state that those before it leave
-  abbrev permitted_in : List Link → Link → Bool
-  permitted_in whole x = is_none (rules.refusal (fold_team rules (take_while (λ y. not (same_name y.name x.name)) whole)) x.entry)
-
-  length_if : (b : Bool) (x : Link) (xs : List Link) (n : ℕ) → length xs ≡ n → length (cond b (x ∷ xs) xs) ≡ cond b 1 0 + n
-  length_if true x xs n e = rw e (omega arith)
-  length_if false x xs n e = rw e (omega arith)
-
-  count_new : (whole before list : List Link) → whole ≡ before ++ list → AllNew before list
-      → length (filter (permitted_in whole) list) ≡ permitted_from rules (fold_team rules before) list
-  count_new whole before [] e new = refl
-  count_new whole before (x ∷ xs) e new =
-      let more = count_new whole (before ++ x ∷ []) xs (e ∙ sym (append_assoc before (x ∷ []) xs)) new.1 in
-      let turn : permitted_in whole x ≡ is_none (rules.refusal (fold_team rules before) x.entry) =
-      ap (λ l. is_none (rules.refusal (fold_team rules l) x.entry)) (ap (λ w. take_while (λ y. not (same_name y.name x.name)) w) e ∙ turn_at before xs x new.0) in
-      let next : fold_team rules (before ++ x ∷ []) ≡ rules.after (fold_team rules before) x.entry = fold-append (λ s y. rules.after s y.entry) empty_state before (x ∷ []) in
-      length_if (permitted_in whole x) x (filter (permitted_in whole) xs) (permitted_from rules (rules.after (fold_team rules before) x.entry) xs)
-      (more ∙ ap (λ s. permitted_from rules s xs) next)
-      ∙ ap (λ b. cond b 1 0 + permitted_from rules (rules.after (fold_team rules before) x.entry) xs) turn
-
-filter_both : (p q : Link → Bool) (xs : List Link) → filter (λ x. p x && q x) xs ≡ filter q (filter p xs)
-filter_both p q [] = refl
-filter_both p q (x ∷ xs) = go (p x) (filter_both p q xs)
-  where
-    go : (b : Bool) → filter (λ x. p x && q x) xs ≡ filter q (filter p xs)
-        → cond (b && q x) (x ∷ filter (λ x. p x && q x) xs) (filter (λ x. p x && q x) xs) ≡ filter q (cond b (x ∷ filter p xs) (filter p xs))
-    go true e = ap (λ l. cond (q x) (x ∷ l) l) e
-    go false e = e
 
 is_false : (b : Bool) → (b ≡ true → ⊥) → b ≡ false
 is_false true h = absurd (h refl)
@@ -138,7 +62,7 @@ module _ (rules : Rules) (links : List Link) (differ : NamesDiffer name_of links
   is_lawful x = is_none (unlawful_reason rules links x)
 
   abbrev is_permitted : Link → Bool
-  is_permitted x = permitted_in rules (resolved rules links) x
+  is_permitted x = is_none (rules.refusal (fold_team rules (before_turn rules links x)) x.entry)
 
   decides : StandsAsDecided (is_senior links law) strike (strikers links law)
   decides = stands_as_decided (is_senior links law) strike (strikers links law)
@@ -210,15 +134,6 @@ module _ (rules : Rules) (links : List Link) (differ : NamesDiffer name_of links
       ap (λ b. is_counting (cond b (option_map_or (λ r. Unlawful r) (unlawful_reason rules links x) (lawful_verdict rules links x)) Waiting))
       (name_in name_of prev_of (order_of links) x k x.name refl)
       ∙ by_reason x k (unlawful_reason rules links x) refl
-
-  pub counting : length (counting_links rules links) ≡ permitted_from rules empty_state (resolved rules links)
-  counting =
-      ap length
-      (filter_alike (λ x. is_counting (verdict rules links x)) (λ x. is_lawful x && (stays rules links law stood x && is_permitted x)) (order_of links) counts
-      ∙ filter_both is_lawful (λ x. stays rules links law stood x && is_permitted x) (order_of links)
-      ∙ filter_both (stays rules links law stood) is_permitted law)
-      ∙ count_new rules (resolved rules links) [] (resolved rules links) refl
-      (new_part (stays rules links law stood) [] law (new_part is_lawful [] (order_of links) (first_new [] (order_of links) (order_first name_of prev_of links differ))))
 
   -- no standing striker strikes another
   pub standers_apart : (s t : Link) → IsIn s stood → IsIn t stood → strike s t ≡ false

@@ -1,8 +1,9 @@
 -- Where no key line was taken, a key is owed for each live scope but the devices, and nothing else.
 use Rattle.std.proofs.Common.{◌≡◌, ℕ, Bool, true, false, not, ◌&&◌, cond, List, [], ◌∷◌, ◌++◌, append-nil, map, filter, flat_map, refl, sym, ◌∙◌, ap, subst, inl, inr, ◌⊎◌}
 use Rattle.std.specs.List.{list_any}
-use Rattle.std.proofs.lemmas.Bool.{false≢true, and_parts, not-true, not_from_false, not_from_true}
+use Rattle.std.proofs.lemmas.Bool.{false_from_ne_true, false≢true, and_parts, not-true, not_from_false, not_from_true}
 use Rattle.std.proofs.lemmas.List.Concat.{flat_map-append}
+use Rattle.std.proofs.lemmas.List.Elements.{filter-append}
 use Rattle.std.proofs.lemmas.List.Folds.{flat_map-map}
 use Rattle.team_sets.specs.Names.{Name}
 use Rattle.team_sets.specs.Members.{IsIn}
@@ -27,18 +28,6 @@ use Rattle.team_model.specs.ShowText.{debt_line, debt_lines}
 use Rattle.team_model.specs.DebtLaws.{keyless_lines}
 use Rattle.team_model.specs.State.{State, is_empty_state}
 use Rattle.team_model.specs.declared.terms.Device.{Device}
-
-refuted : (b : Bool) → (b ≡ true → ⊥) → b ≡ false
-refuted true h = absurd (h refl)
-refuted false h = refl
-
-filter_append : {A : Type 0} (p : A → Bool) (xs ys : List A) → filter p (xs ++ ys) ≡ filter p xs ++ filter p ys
-filter_append p [] ys = refl
-filter_append p (x ∷ xs) ys = go (p x) (filter_append p xs ys)
-  where
-    go : (b : Bool) → filter p (xs ++ ys) ≡ filter p xs ++ filter p ys → cond b (x ∷ filter p (xs ++ ys)) (filter p (xs ++ ys)) ≡ cond b (x ∷ filter p xs) (filter p xs) ++ filter p ys
-    go true e = ap (λ l. x ∷ l) e
-    go false e = e
 
 filter_all : {A : Type 0} (p : A → Bool) (xs : List A) → ((x : A) → IsIn x xs → p x ≡ true) → filter p xs ≡ xs
 filter_all p [] h = refl
@@ -110,7 +99,7 @@ module _ (t : Table) (unboxed : t.boxes ≡ []) (devices : (k : KeyId) → IsIn 
       go (inr h) = absurd (subst (λ boxes. IsIn k (unlawful boxes)) unboxed h)
 
   none_tainted : filter (is_tainted t) (current_keys t) ≡ []
-  none_tainted = none_filter (is_tainted t) (current_keys t) (λ k j. refuted (is_tainted t k) (λ h. false≢true (sym (not_live k (of_reach (leaked t) k h)) ∙ (of_current k j).live)))
+  none_tainted = none_filter (is_tainted t) (current_keys t) (λ k j. false_from_ne_true (is_tainted t k) (λ h. false≢true (sym (not_live k (of_reach (leaked t) k h)) ∙ (of_current k j).live)))
 
   -- a device is entitled to no other device's scope
   own_alone : (d : Name) (c : Scope) → is_device c ≡ true → Reaches (scope_arrows t) (filter (same_scope (DeviceScope d)) t.scopes) c → DeviceScope d ≡ c
@@ -118,7 +107,7 @@ module _ (t : Table) (unboxed : t.boxes ≡ []) (devices : (k : KeyId) → IsIn 
   own_alone d _ e (follows a b k r) = absurd (never a b (arrow_allowed t a b k) e)
 
   none_unreached : (k : KeyId) → IsIn k (current_keys t) → filter (is_unreached t k) (device_names t) ≡ []
-  none_unreached k j = none_filter (is_unreached t k) (device_names t) (λ d i. refuted (is_unreached t k d) (met d))
+  none_unreached k j = none_filter (is_unreached t k) (device_names t) (λ d i. false_from_ne_true (is_unreached t k d) (met d))
     where
       met : (d : Name) → is_unreached t k d ≡ true → ⊥
       met d h =
@@ -153,7 +142,7 @@ module _ (s : State) (no_currents : s.currents ≡ []) (no_boxes : s.boxes ≡ [
 
   -- a scope that isn't a device's is without a key
   without : (c : Scope) → is_device c ≡ false → is_without_key (key_table s) c ≡ true
-  without c other = not_from_false (list_any (λ k. same_scope k.scope c) (all_keys s)) (refuted (list_any (λ k. same_scope k.scope c) (all_keys s)) met)
+  without c other = not_from_false (list_any (λ k. same_scope k.scope c) (all_keys s)) (false_from_ne_true (list_any (λ k. same_scope k.scope c) (all_keys s)) met)
     where
       met : list_any (λ k. same_scope k.scope c) (all_keys s) ≡ true → ⊥
       met h =
@@ -188,13 +177,13 @@ module _ (s : State) (no_currents : s.currents ≡ []) (no_boxes : s.boxes ≡ [
 
   owing : filter owes (live_scopes s) ≡ team_scopes s ++ (map (λ r. Role r) s.roles ++ map (λ m. User m.user) s.members)
   owing =
-      filter_append owes (team_scopes s) (map (λ r. Role r) s.roles ++ (map (λ m. User m.user) s.members ++ map scope_of_device (filter (λ d. d.listed) s.devices)))
+      filter-append owes (team_scopes s) (map (λ r. Role r) s.roles ++ (map (λ m. User m.user) s.members ++ map scope_of_device (filter (λ d. d.listed) s.devices)))
       ∙ ap (λ l. l ++ filter owes (map (λ r. Role r) s.roles ++ (map (λ m. User m.user) s.members ++ map scope_of_device (filter (λ d. d.listed) s.devices)))) (team_owes (is_empty_state s))
       ∙ ap (λ l. team_scopes s ++ l)
-      (filter_append owes (map (λ r. Role r) s.roles) (map (λ m. User m.user) s.members ++ map scope_of_device (filter (λ d. d.listed) s.devices))
+      (filter-append owes (map (λ r. Role r) s.roles) (map (λ m. User m.user) s.members ++ map scope_of_device (filter (λ d. d.listed) s.devices))
       ∙ ap (λ l. l ++ filter owes (map (λ m. User m.user) s.members ++ map scope_of_device (filter (λ d. d.listed) s.devices))) (all_owe (λ r. Role r) s.roles (λ r. refl))
       ∙ ap (λ l. map (λ r. Role r) s.roles ++ l)
-      (filter_append owes (map (λ m. User m.user) s.members) (map scope_of_device (filter (λ d. d.listed) s.devices))
+      (filter-append owes (map (λ m. User m.user) s.members) (map scope_of_device (filter (λ d. d.listed) s.devices))
       ∙ ap (λ l. l ++ filter owes (map scope_of_device (filter (λ d. d.listed) s.devices))) (all_owe (λ m. User m.user) s.members (λ m. refl))
       ∙ ap (λ l. map (λ m. User m.user) s.members ++ l) none_owe ∙ append-nil (map (λ m. User m.user) s.members)))
 

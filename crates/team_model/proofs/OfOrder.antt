@@ -8,13 +8,14 @@ use Rattle.team_sets.specs.Places.{place_lt, least_place}
 use Rattle.team_sets.specs.Settlement.{Decided, stands, struck, lost}
 use Rattle.team_sets.specs.SettlementLaws.{RankAlike}
 use Rattle.team_sets.specs.WaitingLaws.{HaveSameConnected}
-use Rattle.team_sets.proofs.Ancestors.{differ-past, filter_alike, in_links}
+use Rattle.team_sets.proofs.Ancestors.{differ-past, in_links}
+use Rattle.team_sets.proofs.Lists.{any_alike, filter_alike}
 use Rattle.team_sets.proofs.Decisions.{standing-members}
 use Rattle.team_sets.proofs.OrderLeast.{of_filter}
 use Rattle.team_sets.proofs.OrderSame.{order-same}
 use Rattle.team_sets.proofs.Pasts.{one_named}
 use Rattle.team_sets.proofs.SameOrder.{differ-order, order-order, same_connected}
-use Rattle.team_sets.proofs.SameRanks.{any_alike, decision-alike, find_alike, standing-alike}
+use Rattle.team_sets.proofs.SameRanks.{decision-alike, find_alike, standing-alike}
 use Rattle.team_model.specs.Counting.{counting_links, is_counting}
 use Rattle.team_model.specs.Strikes.{brings_user, is_striking, strikes_by}
 use Rattle.team_model.specs.Judging.{Rules, name_of, prev_of, order_of, past_of, place_of, strikes_among, seniority, is_senior, strikers, standing_strikers, decision_in, stays, resolved_from, first_striker, fold_team, lawful_by, team_within, team, unlawful_reason, lawful, resolved, at_turn, striker_verdict, lawful_verdict, verdict}

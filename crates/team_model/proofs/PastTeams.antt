@@ -3,7 +3,8 @@ use Rattle.std.proofs.Common.{◌≡◌, Bool, true, false, cond, List, [], ◌�
 use Rattle.team_sets.specs.Members.{IsIn}
 use Rattle.team_sets.specs.Ancestry.{is_before}
 use Rattle.team_sets.specs.OrderLaws.{NamesDiffer}
-use Rattle.team_sets.proofs.Ancestors.{differ-past, filter_alike, order-past, past-past}
+use Rattle.team_sets.proofs.Ancestors.{differ-past, order-past, past-past}
+use Rattle.team_sets.proofs.Lists.{filter_alike}
 use Rattle.team_model.specs.Judging.{Rules, name_of, prev_of, order_of, past_of, resolved_from, fold_team, team, lawful}
 use Rattle.team_model.specs.declared.terms.Link.{Link}
 use Rattle.team_model.proofs.Teams.{team_is_fold}

@@ -3,7 +3,8 @@ use Rattle.std.proofs.Common.{◌≡◌, ℕ, zero, suc, List, [], ◌∷◌, is
 use Rattle.team_sets.specs.OrderLaws.{NamesDiffer}
 use Rattle.team_model.specs.Judging.{Rules, name_of, prev_of, order_of, past_of, resolved_from, fold_team, team_within, team, resolved}
 use Rattle.team_model.specs.declared.terms.Link.{Link}
-use Rattle.team_sets.proofs.Ancestors.{differ-past, filter_alike}
+use Rattle.team_sets.proofs.Ancestors.{differ-past}
+use Rattle.team_sets.proofs.Lists.{filter_alike}
 use Rattle.team_sets.proofs.Pasts.{past-shorter}
 
 none_of_zero : (links : List Link) → length links ≤ 0 → links ≡ []

@@ -72,7 +72,7 @@ ListedRow = (refusals crew (by di Join ∷ by di (AddRole admin) ∷ by_device c
     ≡ Some NotListed ∷ Some NotListed ∷ Some NotListed ∷ Some NotListed ∷ None ∷ None ∷ [])
     × (refusals empty_state (by ann Join ∷ by ann (Found [] []) ∷ []) ≡ Some NotListed ∷ None ∷ [])
 
--- a team in which no more is listed: of each kind as many as there may be
+-- a state in which n devices more are listed for di, who is no member
 abbrev many_devices : ℕ → State → State
 many_devices n s = record s { devices = s.devices ++ replicate n (listed_device (9 ∷ []) [] di) }
 

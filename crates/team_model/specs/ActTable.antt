@@ -14,7 +14,7 @@ use Rattle.team_model.specs.State.{drop_row, put_name}
 use Rattle.team_model.specs.Writes.{listed_device, with_device, with_newcomer, with_role, with_roles, with_title, without_device, without_member, without_role}
 use Rattle.acts.specs.Admin.{is_another, is_shared}
 use Rattle.acts.specs.declared.entry.Act.{Act}
-use Rattle.acts.specs.declared.entry.Act.TheVariants.{Found, AddMember, RemoveMember, AddRole, RemoveRole, GiveRole, TakeRole, AddDevice, RemoveDevice, Rotate, Seal, Title, Join}
+use Rattle.acts.specs.declared.entry.Act.TheVariants.{Found, AddMember, RemoveMember, AddRole, RemoveRole, GiveRole, TakeRole, AddDevice, RemoveDevice, InviteMember, InviteDevice, Revoke, AdmitMember, AdmitDevice, Rotate, Seal, Title, Join}
 use Rattle.acts.specs.declared.entry.Entry.{Entry}
 use Rattle.team_model.specs.declared.terms.Reason.{Reason}
 use Rattle.team_model.specs.declared.terms.Reason.TheVariants.{NotListed, NotAdmin, NotYours, Present, Absent, LastAdmin, LastDevice, WasRemoved, TooMany, Reserved, NotEmpty}
@@ -75,13 +75,17 @@ module _ (device_of : List ℕ → Name) where
   row_of s e (AddDevice key seal) = device_conditions s e.user (device_of key)
   row_of s e (RemoveDevice user id) =
       (meddles s e user, NotAdmin) ∷ (not (lists_device s user id), Absent) ∷ (not (has_other_device s user id), LastDevice) ∷ []
+  row_of s e (InviteMember key uses expiry) = []
+  row_of s e (InviteDevice key uses expiry) = []
+  row_of s e (Revoke kind id) = []
+  row_of s e (AdmitMember user key seal by proof) = []
+  row_of s e (AdmitDevice key seal by proof) = []
   row_of s e (Rotate scope) =
       (not (is_live (key_table s) scope), Absent) ∷ (is_shared scope && lacks_admin s e, NotAdmin) ∷ (is_anothers scope e, NotYours)
       ∷ (is_at_end s scope, TooMany) ∷ []
   row_of s e Seal = []
   row_of s e (Title title) = (lacks_admin s e, NotAdmin) ∷ []
   row_of s e Join = []
-  row_of s e _ = []
 
   -- each act but `found` is refused first where the author isn't listed, or the author's device isn't listed for the author
   abbrev pub conditions_by : State → Entry → Act → List (Bool × Reason)
@@ -103,14 +107,18 @@ module _ (device_of : List ℕ → Name) where
   effect_by s e (TakeRole user role) = with_roles s user (drop_row (λ r. r) role (roles_of s user))
   effect_by s e (AddDevice key seal) = with_device s (listed_device (device_of key) seal e.user)
   effect_by s e (RemoveDevice user id) = without_device s id
+  effect_by s e (InviteMember key uses expiry) = s
+  effect_by s e (InviteDevice key uses expiry) = s
+  effect_by s e (Revoke kind id) = s
+  effect_by s e (AdmitMember user key seal by proof) = s
+  effect_by s e (AdmitDevice key seal by proof) = s
+  effect_by s e (Rotate scope) = s
+  effect_by s e Seal = s
   effect_by s e (Title title) = with_title s title
-  effect_by s e _ = s
+  effect_by s e Join = s
 
   abbrev pub after_by : State → Entry → State
   after_by s e = if is_none (refusal_by s e) then effect_by s e e.act else s
-
-abbrev pub conditions : State → Entry → Act → List (Bool × Reason)
-conditions s e a = conditions_by sha256 s e a
 
 -- why an entry is refused, if it is
 abbrev pub refusal : State → Entry → Option Reason

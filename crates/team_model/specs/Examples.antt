@@ -2,10 +2,10 @@
 use Rattle.std.specs.Prelude.{◌≡◌, ℕ, List, [], ◌∷◌, ◌++◌, map, codes, Some, None}
 use Rattle.team_sets.specs.Names.{Name}
 use Rattle.acts.specs.declared.entry.Act.{Act}
-use Rattle.acts.specs.declared.entry.Act.TheVariants.{Found, AddMember, RemoveMember, GiveRole, Title, Join}
+use Rattle.acts.specs.declared.entry.Act.TheVariants.{Found, AddMember, RemoveMember, AddRole, GiveRole, Title, Join}
 use Rattle.team_model.specs.declared.terms.Link.{Link}
-use Rattle.team_model.specs.declared.terms.Verdict.TheVariants.{Counts, Outranked, Struck, Unlawful, Waiting}
-use Rattle.team_model.specs.declared.terms.Reason.TheVariants.{NotListed}
+use Rattle.team_model.specs.declared.terms.Verdict.TheVariants.{Counts, Outranked, Refused, Struck, Unlawful, Waiting}
+use Rattle.team_model.specs.declared.terms.Reason.TheVariants.{NotListed, Present}
 use Rattle.team_model.specs.Arrival.{arrived}
 use Rattle.team_model.specs.ShowText.{show_text}
 use Rattle.team_model.specs.Judging.{Rules, rules_by, verdict, team, team_rules}
@@ -20,7 +20,7 @@ link n ps u a = record {
   entry = record { user = u ∷ []; device = u ∷ []; time = 0; act = a; lines = record { news = []; boxes = [] } };
 }
 
--- a root, two titles beside each other, a join behind both, a title by a stranger, and a join whose parent isn't there
+-- a root, two titles beside each other, a join after both, a title by a stranger, and a join whose parent isn't there
 abbrev pub reef : List Link
 reef = link 9 (2 ∷ 5 ∷ []) 1 Join ∷ link 5 (7 ∷ []) 1 (Title (codes "High tide")) ∷ link 7 [] 1 (Found [] (codes "Reef crew"))
     ∷ link 2 (7 ∷ []) 1 (Title (codes "Low tide")) ∷ link 3 (7 ∷ []) 8 (Title (codes "Mine")) ∷ link 4 (6 ∷ []) 1 Join ∷ []
@@ -48,17 +48,24 @@ ArrivalRow = map (λ x. x.name) (arrived (link 4 (9 ∷ []) 1 Join ∷ link 2 (4
     ≡ (9 ∷ []) ∷ (3 ∷ []) ∷ (4 ∷ []) ∷ (2 ∷ []) ∷ (1 ∷ []) ∷ []
 
 -- two titles whose root isn't there: they wait, and nothing else is said. The root then comes, last
-abbrev pub early : List Link
-early = by (codes "ann") 5 (7 ∷ []) (Title (codes "High tide")) ∷ by (codes "ann") 2 (7 ∷ []) (Title (codes "Low tide")) ∷ []
+abbrev pub rootless : List Link
+rootless = by (codes "ann") 5 (7 ∷ []) (Title (codes "High tide")) ∷ by (codes "ann") 2 (7 ∷ []) (Title (codes "Low tide")) ∷ []
 
 abbrev pub WaitingRow : Type 0
-WaitingRow = (show_text (7 ∷ []) early ≡ codes "team 07\nlinks 2 waiting 2 counting 0\nend\n")
-    × (show_text (7 ∷ []) (by (codes "ann") 7 [] (Found [] (codes "Reef crew")) ∷ early)
+WaitingRow = (show_text (7 ∷ []) rootless ≡ codes "team 07\nlinks 2 waiting 2 counting 0\nend\n")
+    × (show_text (7 ∷ []) (by (codes "ann") 7 [] (Found [] (codes "Reef crew")) ∷ rootless)
     ≡ codes "team 07\ntitle High tide\nlinks 3 waiting 0 counting 3\nmember ann admin\ndevice ann 01\nrole admin\ndebt none team\ndebt none role:admin\ndebt none user:ann\nend\n")
 
 -- by rules under which the id of a device is its key
 abbrev own_rules : Rules
 own_rules = rules_by (λ key. key)
+
+-- a root, and a role listed twice, beside each other: the lesser name's turn comes first, and the other is refused at its own
+abbrev pub twice : List Link
+twice = link 30 [] 1 (Found [] (codes "t")) ∷ link 9 (30 ∷ []) 1 (AddRole (codes "editor")) ∷ link 8 (30 ∷ []) 1 (AddRole (codes "editor")) ∷ []
+
+abbrev pub TwiceRow : Type 0
+TwiceRow = map (verdict own_rules twice) twice ≡ Counts ∷ Refused Present ∷ Counts ∷ []
 
 -- a member by a number, with a device of the same name, and as an admin
 abbrev add : ℕ → Act
@@ -89,12 +96,12 @@ abbrev pub RingRow : Type 0
 RingRow = map (verdict own_rules ring) ring ≡ Counts ∷ Counts ∷ Counts ∷ Counts ∷ Counts ∷ Counts ∷ Struck (9 ∷ []) ∷ Outranked (9 ∷ []) ∷ []
 
 -- 2 removes 3, whose title beside it is struck; then a removal of 2 by 1 beside both comes
-abbrev pub voided : List Link
-voided = admins ++ link 8 (34 ∷ []) 2 (remove 3) ∷ link 7 (34 ∷ []) 3 (Title (codes "ours")) ∷ []
+abbrev pub early : List Link
+early = admins ++ link 8 (34 ∷ []) 2 (remove 3) ∷ link 7 (34 ∷ []) 3 (Title (codes "ours")) ∷ []
 
 abbrev pub late : List Link
-late = voided ++ link 9 (34 ∷ []) 1 (remove 2) ∷ []
+late = early ++ link 9 (34 ∷ []) 1 (remove 2) ∷ []
 
 abbrev pub LateRow : Type 0
-LateRow = (map (verdict own_rules voided) voided ≡ Counts ∷ Counts ∷ Counts ∷ Counts ∷ Counts ∷ Counts ∷ Struck (8 ∷ []) ∷ [])
+LateRow = (map (verdict own_rules early) early ≡ Counts ∷ Counts ∷ Counts ∷ Counts ∷ Counts ∷ Counts ∷ Struck (8 ∷ []) ∷ [])
     × (map (verdict own_rules late) late ≡ Counts ∷ Counts ∷ Counts ∷ Counts ∷ Counts ∷ Struck (9 ∷ []) ∷ Counts ∷ Counts ∷ [])

@@ -1,14 +1,13 @@
 -- What the team of a set of links is, without the bound on its recursion; what stays when a link comes; and that all of it
 -- depends on the order of the set alone, so on which links are in it, and not on those that wait.
-use Rattle.std.specs.Prelude.{◌≡◌, List, [], ◌∷◌, ◌++◌, false, filter, length}
+use Rattle.std.specs.Prelude.{◌≡◌, List, [], ◌∷◌, ◌++◌, false, filter}
 use Rattle.std.specs.List.{AllByRecursion}
 use Rattle.team_sets.specs.Names.{Name, has_name}
 use Rattle.team_sets.specs.Members.{IsIn, HaveSameMembers}
 use Rattle.team_sets.specs.Order.{names}
 use Rattle.team_sets.specs.OrderLaws.{IsSet, NamesDiffer}
 use Rattle.team_sets.specs.Ancestry.{is_before}
-use Rattle.team_model.specs.Counting.{counting_links, permitted_from}
-use Rattle.team_model.specs.State.{empty_state}
+use Rattle.team_model.specs.Counting.{counting_links}
 use Rattle.team_model.specs.Judging.{Rules, name_of, prev_of, order_of, past_of, place_of, strikes_among, team, team_rules, fold_team, lawful, resolved, resolved_from, unlawful_reason, verdict}
 use Rattle.team_model.specs.ShowText.{show_text}
 use Rattle.team_model.specs.Strikes.{is_striking}
@@ -23,17 +22,13 @@ abbrev pub TeamOfPast : Type 0
 TeamOfPast = (rules : Rules) (links : List Link) → NamesDiffer name_of links → (x : Link) → IsIn x (order_of links)
     → team rules (past_of links x) ≡ fold_team rules (resolved_from rules (past_of links x) (filter (λ y. is_before name_of prev_of links y.name x) (lawful rules links)))
 
--- where none of the lawful links strikes, none of them is struck: each is resolved
+-- the link doesn't strike
 abbrev pub IsHarmless : Link → Type 0
 IsHarmless x = is_striking x.entry.act ≡ false
 
+-- where none of the lawful links strikes, none of them is struck: each is resolved
 abbrev pub NoneIsStruck : Type 0
 NoneIsStruck = (rules : Rules) (links lawful : List Link) → AllByRecursion IsHarmless lawful → resolved_from rules links lawful ≡ lawful
-
--- the links that count are as many as those of the resolved list that are permitted at their turn
-abbrev pub CountingArePermitted : Type 0
-CountingArePermitted = (rules : Rules) (links : List Link) → NamesDiffer name_of links
-    → length (counting_links rules links) ≡ permitted_from rules empty_state (resolved rules links)
 
 -- whether a connected link is lawful never changes when another link comes
 abbrev pub LawfulStays : Type 0

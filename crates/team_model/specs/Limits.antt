@@ -1,5 +1,7 @@
 -- How much a team has at most.
 use Rattle.std.specs.Prelude.{ℕ}
+use Rattle.tg_text.specs.KeySpelling as spelling
+use Rattle.tg_text.specs.declared.keys.Scope.TheVariants.{Team}
 
 -- How many members are listed at most.
 abbrev pub most_members : ℕ
@@ -17,6 +19,10 @@ most_devices = 8
 abbrev pub most_roles : ℕ
 most_roles = 32
 
--- The last generation of a scope's keys.
+-- How many boxes are held at most.
+abbrev pub most_boxes : ℕ
+most_boxes = 65536
+
+-- The last generation of a scope's keys, as a key id may have it: the team's, and each role's and user's too.
 abbrev pub last_generation : ℕ
-last_generation = 65534
+last_generation = spelling.last_generation Team

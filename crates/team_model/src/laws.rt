@@ -1,8 +1,8 @@
 ghost use Rattle.team_model.specs.ActRows.{DeviceRow, FoundingRow, GiftRow, ListedRow, NewcomerRow, RemovalRow, RoleRow, RotationRow, TitleRow};
 ghost use Rattle.team_model.specs.CountingLaws.{CountingAreByListed, CountingIsRight, RankIsDefined, StandersAreApart, TeamRulesBringIn};
 ghost use Rattle.team_model.specs.DebtLaws.{KeylessOweEachKey};
-ghost use Rattle.team_model.specs.Examples.{ArrivalRow, LateRow, ReefRow, RingRow, ShownRow, TwoRow, WaitingRow};
-ghost use Rattle.team_model.specs.JudgingLaws.{CountingArePermitted, LawfulStays, MeaningIsOfOrder, MeaningIsOfSet, NoneIsStruck, TeamIsFold, TeamOfPast, TextIsOfSet, WaitingHaveNoEffect};
+ghost use Rattle.team_model.specs.Examples.{ArrivalRow, LateRow, ReefRow, RingRow, ShownRow, TwiceRow, TwoRow, WaitingRow};
+ghost use Rattle.team_model.specs.JudgingLaws.{LawfulStays, MeaningIsOfOrder, MeaningIsOfSet, NoneIsStruck, TeamIsFold, TeamOfPast, TextIsOfSet, WaitingHaveNoEffect};
 
 /// The team of a set of links is the fold over its resolved list, and a link is lawful by the team of its past.
 pub fn team_is_fold()
@@ -22,11 +22,6 @@ pub fn team_of_past()
 /// Where none of the lawful links strikes, none of them is struck.
 pub fn none_is_struck()
     ensures { NoneIsStruck }
-{}
-
-/// The links that count are those of the resolved list that are permitted at their turn.
-pub fn counting_are_permitted()
-    ensures { CountingArePermitted }
 {}
 
 /// A link counts exactly where it is connected and lawful, stands, isn't struck and is permitted at its turn; and then it is by
@@ -76,6 +71,11 @@ pub fn keyless_owe_each_key()
 /// A root, titles beside each other, a join, a stranger's title, and a link that waits: the team and what became of each.
 pub fn worked_team()
     ensures { ReefRow }
+{}
+
+/// Two links beside each other that list the same role: one counts, and the other is refused at its turn.
+pub fn worked_refusal()
+    ensures { TwiceRow }
 {}
 
 /// What is shown of a first team, of an empty one, and of links that wait until their root comes.

@@ -11,10 +11,12 @@ mod limits;
 mod terms;
 
 pub use laws::{
-    counting_are_permitted, counting_is_right, keyless_owe_each_key, lawful_stays,
-    meaning_is_of_order, meaning_is_of_set, none_is_struck, rank_is_defined, standers_are_apart,
-    team_is_fold, team_of_past, text_is_of_set, waiting_have_no_effect, worked_arrival,
-    worked_devices, worked_members, worked_removals, worked_roles, worked_show, worked_team,
+    counting_is_right, keyless_owe_each_key, lawful_stays, meaning_is_of_order, meaning_is_of_set,
+    none_is_struck, rank_is_defined, standers_are_apart, team_is_fold, team_of_past,
+    text_is_of_set, waiting_have_no_effect, worked_arrival, worked_devices, worked_members,
+    worked_refusal, worked_removals, worked_roles, worked_show, worked_team,
 };
-pub use limits::{LAST_GENERATION, MOST_DEVICES, MOST_DEVICES_EVER, MOST_MEMBERS, MOST_ROLES};
+pub use limits::{
+    LAST_GENERATION, MOST_BOXES, MOST_DEVICES, MOST_DEVICES_EVER, MOST_MEMBERS, MOST_ROLES,
+};
 pub use terms::{Device, Invitation, Link, Member, Reason, Verdict};

@@ -12,5 +12,8 @@ pub const MOST_DEVICES: usize = 8;
 /// How many roles are listed at most, `admin` among them.
 pub const MOST_ROLES: usize = 32;
 
+/// How many boxes are held at most.
+pub const MOST_BOXES: usize = 65_536;
+
 /// The last generation of a scope's keys.
 pub const LAST_GENERATION: u16 = 65_534;

@@ -5,4 +5,5 @@ pub mod Listed
 pub mod Lookups
 pub mod Placed
 pub mod Scopes
+pub mod Staying
 pub mod Written

@@ -1,10 +1,11 @@
 -- Rows of one table seen as rows of another, and tables one behind another.
-use Rattle.std.proofs.Common.{◌≡◌, ℕ, suc, ◌-◌, Bool, true, false, not, cond, List, [], ◌∷◌, ◌++◌, map, take, length, refl, ◌∙◌, ap, arith, length-append}
+use Rattle.std.proofs.Common.{◌≡◌, ℕ, suc, ◌-◌, Bool, true, false, not, cond, List, [], ◌∷◌, ◌++◌, map, take, length, refl, ◌∙◌, ap, inr, arith, length-append}
 use Rattle.std.specs.List.{AllByRecursion}
 use Rattle.std.specs.List.Sorted.{IsStrictlySortedBy}
 use Rattle.std.specs.Ordering.{is_lt}
 use Rattle.std.specs.declared.cmp.Ordering.{Ordering}
 use Rattle.std.specs.declared.cmp.Ordering.TheVariants.{Less}
+use Rattle.team_sets.specs.Members.{IsIn}
 use Rattle.team_sets.specs.Names.{put_in}
 use Rattle.team_state.specs.Rows.{Ascend, is_before, with_row, without_key}
 
@@ -20,6 +21,10 @@ module _ {X : Type 0} where
       go : (b : Bool) → AllByRecursion P (put_in before x ys) → AllByRecursion P (cond b (x ∷ y ∷ ys) (y ∷ put_in before x ys))
       go true more = (p, all)
       go false more = (all.0, more)
+
+  pub in_back : (xs ys : List X) (x : X) → IsIn x ys → IsIn x (xs ++ ys)
+  in_back [] ys x k = k
+  in_back (z ∷ zs) ys x k = inr (in_back zs ys x k)
 
   pub map-append : {Y : Type 0} (f : X → Y) (xs ys : List X) → map f (xs ++ ys) ≡ map f xs ++ map f ys
   map-append f [] ys = refl

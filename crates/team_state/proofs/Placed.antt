@@ -1,9 +1,9 @@
 -- Rows in the order of their keys: where a key stands, and what putting and dropping a row makes.
-use Rattle.std.proofs.Common.{◌≡◌, ℕ, zero, suc, ◌+◌, ◌<◌, ◌≤◌, Bool, true, false, not, ◌&&◌, ◌||◌, cond, List, [], ◌∷◌, ◌++◌, map, filter, take, drop, length, get_or, refl, sym, ◌∙◌, ap, set, Result, Ok, Err, IfOk, IfErr, IsOk, if◌then◌else◌, subst, arith, add-one}
+use Rattle.std.proofs.Common.{◌≡◌, ℕ, zero, suc, ◌+◌, ◌<◌, ◌≤◌, Bool, true, false, not, ◌&&◌, ◌||◌, cond, List, [], ◌∷◌, ◌++◌, map, filter, take, drop, length, get_or, refl, sym, ◌∙◌, ap, set, Result, Ok, Err, IfOk, IfErr, IsOk, if◌then◌else◌, subst, inl, inr, arith, add-one}
 use Rattle.std.specs.List.{AllByRecursion, AllWithin, insert, list_any}
 use Rattle.std.specs.Result.{is_ok}
 use Rattle.std.specs.List.Sorted.{IsStrictlySortedBy, IsBinarySearchResult, IsNonDecreasingBy, IsPartitionPoint, IsSearchInRange}
-use Rattle.std.specs.Cmp.{IsTotalOrder, alike_right}
+use Rattle.std.specs.Cmp.{IsTotalOrder, alike_right, tied_itself}
 use Rattle.std.specs.Ordering.{eq_by_cmp, is_eq, is_lt, ordering_index, ordering_reverse}
 use Rattle.std.specs.declared.cmp.Ordering.{Ordering}
 use Rattle.std.specs.declared.cmp.Ordering.TheVariants.{Less, Equal, Greater}
@@ -11,7 +11,9 @@ use Rattle.std.proofs.lemmas.Bool.{false≢true}
 use Rattle.std.proofs.lemmas.List.{drop-set, take-append-drop, take-set}
 use Rattle.std.proofs.lemmas.List.Elements.{filter-append}
 use Rattle.std.proofs.lemmas.List.Sorted.{searchable_from_sorted}
+use Rattle.team_sets.specs.Members.{IsIn}
 use Rattle.team_sets.specs.Names.{put_in}
+use Rattle.team_sets.proofs.Pasts.{all_at}
 use Rattle.team_state.specs.Rows.{Ascend, AreAbove, AreAt, AreBelow, IsSplit, is_before, with_row, without_key}
 
 module _ {X : Type 0} where
@@ -299,6 +301,16 @@ module _ {A K : Type 0} (order : K → K → Ordering) (same : K → K → Bool)
   pub insert-is : {E : Type 0} (row : A) (xs ys : List A) (i : ℕ) (r : Result (Unit {0}) E) → ys ≡ (if is_ok r then insert xs i row else xs) → IsOk r → IsSplit order key (key row) xs (take i xs) [] (drop i xs) → ys ≡ with_row order same key row xs
   insert-is row xs ys i (Ok u) is ok split = is ∙ sym (with-split row xs (take i xs) [] (drop i xs) split)
   insert-is row xs ys i (Err e) is ok split = absurd (false≢true ok)
+
+  -- a row that is there is put in its own place
+  pub put-again : (row : A) (xs : List A) → Ascend order key xs → IsIn row xs → with_row order same key row xs ≡ xs
+  unfolding IsStrictlySortedBy
+  put-again row [] up k = absurd k
+  put-again row (x ∷ xs) up (inl e) =
+      subst (λ z. with_row order same key z (x ∷ xs) ≡ x ∷ xs) e (with-split x (x ∷ xs) [] (x ∷ []) xs (found_split (key x) (x ∷ xs) zero x up (omega arith) (tied_itself total (key x))))
+  put-again row (x ∷ xs) up (inr k) =
+      let below : order (key x) (key row) ≡ Less = all_at (λ z. order (key x) (key z) ≡ Less) xs (all-unmap (λ z. order (key x) z ≡ Less) key xs up.0) row k in
+      with-prefix row (x ∷ []) xs (below, tt) ∙ ap (λ rest. x ∷ rest) (put-again row xs up.1 k)
 
   -- what is found of a key: a row that has it, or none
   any_other : (q : A → Bool) (k : K) (xs : List A) → AllByRecursion (λ row. other k row ≡ true) xs → list_any (λ row. same (key row) k && q row) xs ≡ false

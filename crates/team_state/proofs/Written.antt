@@ -2,6 +2,7 @@
 use Rattle.std.proofs.Common.{◌≡◌, ℕ, Bool, true, false, not, List, [], ◌∷◌, ◌++◌, map, filter, if◌then◌else◌, refl, sym, ◌∙◌, ap, subst}
 use Rattle.std.specs.List.Sorted.{IsStrictlySortedBy}
 use Rattle.std.specs.Cmp.Lexicographic.{nat_list_cmp_total, texts_ties}
+use Rattle.team_sets.specs.Members.{IsIn}
 use Rattle.team_sets.specs.Names.{Name, same_name}
 use Rattle.tg_text.specs.Order.{scope_cmp}
 use Rattle.tg_text.specs.declared.keys.Scope.{Scope}
@@ -13,13 +14,14 @@ use Rattle.team_model.specs.declared.terms.Member.{Member}
 use Rattle.team_model.specs.declared.terms.Device.{Device}
 use Rattle.team_model.specs.declared.terms.Invitation.{Invitation}
 use Rattle.team_model.specs.State.{State, empty_state}
-use Rattle.team_model.specs.KeyTables.{key_of_device, live_scopes, scope_of_device}
+use Rattle.team_model.specs.KeyTables.{all_keys, key_of_device, live_scopes, scope_of_device}
 use Rattle.team_model.specs.Writes as after
 use Rattle.team_model.specs.Writes.{unlist_of}
+use Rattle.team_model.proofs.Brought.{in_map}
 use Rattle.team_state.specs.Rows.{Ascend, is_before, with_row}
 use Rattle.team_state.specs.Kept.{IsKept, device_scopes, keeps_scope, stays_listed, name_cmp, state_of, without_devices}
-use Rattle.team_state.proofs.Listed.{all_put_in}
-use Rattle.team_state.proofs.Placed.{all-filter, with-ascends, without-ascends}
+use Rattle.team_state.proofs.Listed.{all_put_in, in_back}
+use Rattle.team_state.proofs.Placed.{all-filter, put-again, with-ascends, without-ascends}
 use Rattle.team_state.proofs.Ascending.{currents-before, keys-ascend, keys-with_device, keys-with_key, scope_of_key, scopes-ascend}
 use Rattle.team_state.proofs.Scopes as scopes
 use Rattle.team_state.proofs.Scopes.{itself, scopes-tie, scopes-total, with_scope, without_scope}
@@ -150,6 +152,17 @@ module _ (s : State) (keys : List KeyId) (live : List Scope) (kept : IsKept s ke
       go : (b : Bool) → d.listed ≡ b → (if b then with_scope (DeviceScope d.id) live else without_scope (DeviceScope d.id) live) ≡ live_scopes (after.with_device s d)
       go true e = ap (with_scope (DeviceScope d.id)) kept.scopes_are ∙ scopes.scopes-with_listed s d kept.ordered.devices e
       go false e = ap (without_scope (DeviceScope d.id)) kept.scopes_are ∙ scopes.scopes-with_unlisted s d e
+
+  -- a device that was ever listed and isn't any more: its key stays, and its scope goes
+  pub kept-unlisted : (d : Device) → IsIn d s.devices → IsKept (after.with_device s (after.unlisted d)) keys (without_scope (DeviceScope d.id) live)
+  kept-unlisted d k =
+      subst (λ all. IsKept (after.with_device s (after.unlisted d)) all (without_scope (DeviceScope d.id) live)) same (kept-device (after.unlisted d))
+    where
+      same : with_row scope_cmp same_scope scope_of_key (key_of_device d) keys ≡ keys
+      same =
+          subst (λ all. with_row scope_cmp same_scope scope_of_key (key_of_device d) all ≡ all) (sym kept.keys_are)
+          (put-again scope_cmp same_scope scope_of_key scopes-total scopes-tie (key_of_device d) (all_keys s) (keys-ascend s kept.ordered)
+          (in_back s.currents (map key_of_device s.devices) (key_of_device d) (in_map key_of_device s.devices d k)))
 
   unlisted_keys : (u : Name) (ds : List Device) → map key_of_device (map (unlist_of u) ds) ≡ map key_of_device ds
   unlisted_keys u [] = refl

@@ -7,7 +7,6 @@
 
 mod kinds;
 mod looking;
-mod roles;
 mod rows;
 mod state;
 mod table;
@@ -15,3 +14,4 @@ mod writing;
 
 pub use state::TeamState;
 pub use team_model::{Device, Invitation, Member};
+pub use writing::listed_device;

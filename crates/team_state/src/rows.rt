@@ -1,6 +1,7 @@
-ghost use Rattle.std.specs.Prelude.{◌≡◌, Bool, ◌<◌, ◌≤◌, ◌+◌, [], ◌∷◌, drop, take, length, IfErr, IfOk, option_copied, slice_index_or, vec_len, vec_capacity};
+ghost use Rattle.std.specs.Prelude.{◌≡◌, Bool, true, ◌<◌, ◌≤◌, ◌+◌, [], ◌∷◌, drop, take, length, IfErr, IfOk, option_copied, slice_index_or, vec_len, vec_capacity};
 ghost use Rattle.std.specs.declared.cmp.Ordering.{Ordering};
 ghost use Rattle.std.specs.Ordering.{eq_by_cmp};
+ghost use Rattle.std.specs.List.{list_any};
 ghost use Rattle.std.specs.List.Sorted.{IsSearchInRange};
 ghost use Rattle.team_state.specs.Rows.{Ascend, IsSplit, row_with, with_row, without_key};
 
@@ -69,6 +70,18 @@ pub(crate) fn put_row<T: Row>(rows: &mut Vec<T>, row: T)
         Err(place) => {
             let _room = rows.insert(place, row);
         }
+    }
+}
+
+/// Puts a row in the place of the one with its key, which is there. It wants no room.
+pub(crate) fn replace_row<T: Row>(rows: &mut Vec<T>, row: T)
+    requires ascends { Ascend T.order T.key_of rows.old.items }
+    requires there { list_any (λ r. T.same (T.key_of r) (T.key_of row)) rows.old.items ≡ true }
+    ensures { rows.new.items ≡ with_row T.order T.same T.key_of row rows.old.items }
+{
+    let key = row.key();
+    if let Ok(place) = place_of(rows.as_slice(), &key) {
+        rows[place] = row;
     }
 }
 

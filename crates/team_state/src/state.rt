@@ -3,7 +3,7 @@ ghost use Rattle.key_reach.specs.Keys.{is_device, same_scope};
 ghost use Rattle.team_model.specs.KeyTables.{all_keys, current_key, key_table};
 ghost use Rattle.team_sets.specs.Members.{IsIn};
 ghost use Rattle.team_sets.specs.Names.{has_name};
-ghost use Rattle.team_model.specs.State.{device_row, devices_ever, devices_listed, drop_row, empty_state, has_other_device, has_role, is_admin, is_empty_state, is_given, is_listed, is_only_admin, lists_device, lists_user, member_row, put_name, roles_of, was_listed};
+ghost use Rattle.team_model.specs.State.{device_row, devices_ever, devices_listed, empty_state, has_other_device, has_role, is_admin, is_empty_state, is_given, is_listed, is_only_admin, lists_device, lists_user, member_row, roles_of, was_listed};
 ghost use Rattle.team_model.specs.Writes as after;
 ghost use Rattle.team_sets.specs.SortedLaws.{IsAscending, by_names};
 ghost use Rattle.team_state.specs.AscentLaws.{TablesAscend};
@@ -14,11 +14,10 @@ use crate::looking::{
     has_other_device, has_role, has_scope, is_given, is_listed, leads_to_role, lists_device,
     member_has_role,
 };
-use crate::roles::{roles_with, roles_without};
 use crate::rows::{Piece, row_of};
-use crate::table::{Table, append, drop_both, make_table, put, put_both};
+use crate::table::{Table, append, drop_both, make_table, put, put_both, replace_and_drop};
 use crate::writing::{
-    drop_user, put_device_rows, put_newcomer_rows, scopes_without, without_listing,
+    drop_user, listed_device, put_device_rows, put_newcomer_rows, scopes_without, without_listing,
 };
 use key_reach::KeyTable;
 use std::alloc::Global;
@@ -283,18 +282,39 @@ impl TeamState {
         Ok(())
     }
 
-    /// Lists a user, with these roles.
-    pub fn put_member(&mut self, member: Member) -> Result<(), Memory>
-        ensures ok { OnOk result (self.new ≡ after.with_member self.old member) }
+    /// Lists a user with these roles and no others, whether the user was listed or not.
+    pub fn put_roles(&mut self, user: UserName, roles: Items<RoleName>) -> Result<(), Memory>
+        ensures ok { OnOk result (self.new ≡ after.with_roles self.old user roles) }
         ensures err { OnErr result (self.new ≡ self.old) }
     {
-        let scope = Scope::User(member.user);
-        put_both(&mut self.members, &mut self.scopes, member, scope)?;
+        let member = Member { user, roles };
+        put_both(
+            &mut self.members,
+            &mut self.scopes,
+            member,
+            Scope::User(user),
+        )?;
         Ok(())
     }
 
-    /// Lists a user and a device, both or, without memory, none.
-    pub fn put_newcomer(&mut self, member: Member, device: Device) -> Result<(), Memory>
+    /// Lists a user without roles, and a device for that user: both or, without memory, none.
+    pub fn put_newcomer(
+        &mut self,
+        user: UserName,
+        id: DeviceId,
+        seal: [u8; 32],
+    ) -> Result<(), Memory>
+        ensures ok { OnOk result (self.new ≡ after.with_newcomer self.old user id seal) }
+        ensures err { OnErr result (self.new ≡ self.old) }
+    {
+        let member = Member {
+            user,
+            roles: Items::new(self.alloc),
+        };
+        self.put_member_and_device(member, listed_device(id, seal, user))
+    }
+
+    fn put_member_and_device(&mut self, member: Member, device: Device) -> Result<(), Memory>
         ensures ok { OnOk result (self.new ≡ after.with_device (after.with_member self.old member) device) }
         ensures err { OnErr result (self.new ≡ self.old) }
     {
@@ -307,30 +327,6 @@ impl TeamState {
             device,
         )?;
         Ok(())
-    }
-
-    /// Gives a user a role. The user is listed then.
-    pub fn give_role(&mut self, user: &UserName, role: &RoleName) -> Result<(), Memory>
-        ensures ok { OnOk result (self.new ≡ after.with_roles self.old user.now (put_name role.now (roles_of self.old user.now))) }
-        ensures err { OnErr result (self.new ≡ self.old) }
-    {
-        let roles = roles_with(self.alloc, self.roles_of(user), role)?;
-        self.put_member(Member {
-            user: *user,
-            roles: Items::from_vec(roles),
-        })
-    }
-
-    /// Takes a role from a user. The user is listed then.
-    pub fn take_role(&mut self, user: &UserName, role: &RoleName) -> Result<(), Memory>
-        ensures ok { OnOk result (self.new ≡ after.with_roles self.old user.now (drop_row (λ r. r) role.now (roles_of self.old user.now))) }
-        ensures err { OnErr result (self.new ≡ self.old) }
-    {
-        let roles = roles_without(self.alloc, self.roles_of(user), role)?;
-        self.put_member(Member {
-            user: *user,
-            roles: Items::from_vec(roles),
-        })
     }
 
     /// Drops a user, whose devices become unlisted.
@@ -385,8 +381,20 @@ impl TeamState {
         let Some(row) = self.device(device) else {
             return Ok(());
         };
-        let row = without_listing(row);
-        self.put_device(row)
+        let row = *row;
+        self.unlist_row(&row)
+    }
+
+    // A device's key is the same, listed or not. So its row and its scope are all that is written, and neither wants room.
+    fn unlist_row(&mut self, device: &Device) -> Result<(), Memory>
+        requires { IsIn device.now self.old.devices }
+        ensures ok { OnOk result (self.new ≡ after.with_device self.old (after.unlisted device.now)) }
+        ensures err { OnErr result (self.new ≡ self.old) }
+    {
+        let row = without_listing(device);
+        let scope = Scope::Device(device.id);
+        replace_and_drop(&mut self.devices, &mut self.scopes, row, &scope)?;
+        Ok(())
     }
 
     /// Writes the row of an invitation.

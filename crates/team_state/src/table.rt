@@ -1,8 +1,9 @@
 //! Tables behind `Rc`, which are copied when they are written while they are shared.
-ghost use Rattle.std.specs.Prelude.{◌≡◌, ◌<◌, [], ◌∷◌, ◌++◌, IfOk, OnErr, OnOk, vec_len, vec_capacity};
+ghost use Rattle.std.specs.Prelude.{◌≡◌, ◌<◌, true, [], ◌∷◌, ◌++◌, IfOk, OnErr, OnOk, vec_len, vec_capacity};
+ghost use Rattle.std.specs.List.{list_any};
 ghost use Rattle.team_state.specs.Rows.{Ascend, with_row, without_key};
 
-use crate::rows::{Piece, Row, drop_row, put_row};
+use crate::rows::{Piece, Row, drop_row, put_row, replace_row};
 use std::alloc::{AllocError, Global};
 use std::rc::Rc;
 use tg_text::Memory;
@@ -87,6 +88,28 @@ pub(crate) fn put_both<S: Row, T: Row>(
     second.rows.reserve(1)?;
     put_row(&mut first.rows, row);
     put_row(&mut second.rows, other);
+    Ok(())
+}
+
+/// Puts a row in the place of the one with its key in a table, and drops one from another, or does neither where memory is short.
+pub(crate) fn replace_and_drop<S: Row, T: Row>(
+    first: &mut Rc<Table<S>>,
+    second: &mut Rc<Table<T>>,
+    row: S,
+    other: &T::Key,
+) -> Result<(), Memory>
+    requires first { Ascend S.order S.key_of first.old.value.rows.items }
+    requires there { list_any (λ r. S.same (S.key_of r) (S.key_of row)) first.old.value.rows.items ≡ true }
+    requires second { Ascend T.order T.key_of second.old.value.rows.items }
+    ensures first { OnOk result (first.new.value.rows.items ≡ with_row S.order S.same S.key_of row first.old.value.rows.items) }
+    ensures second { OnOk result (second.new.value.rows.items ≡ without_key T.same T.key_of other.now second.old.value.rows.items) }
+    ensures first_stays { OnErr result (first.new.value.rows.items ≡ first.old.value.rows.items) }
+    ensures second_stays { OnErr result (second.new.value.rows.items ≡ second.old.value.rows.items) }
+{
+    let first = Rc::make_mut(first)?;
+    let second = Rc::make_mut(second)?;
+    replace_row(&mut first.rows, row);
+    drop_row(&mut second.rows, other);
     Ok(())
 }
 

@@ -7,6 +7,7 @@ ghost use Rattle.tg_text.specs.declared.keys.Scope.TheVariants.{Device as of_dev
 ghost use Rattle.key_reach.specs.Keys.{same_scope};
 ghost use Rattle.team_model.specs.KeyTables.{key_of_device, scope_of_device};
 ghost use Rattle.team_model.specs.State.{drop_row as rows_without, put_row as rows_with};
+ghost use Rattle.team_model.specs.Writes as after;
 ghost use Rattle.team_model.specs.Writes.{unlist_of, unlisted};
 ghost use Rattle.team_state.specs.Kept.{device_key, device_scopes, keeps_scope, key_scope, member_key, name_cmp, stays_listed};
 ghost use Rattle.team_state.specs.Rows.{Ascend, with_row, without_key};
@@ -16,7 +17,7 @@ use crate::table::Table;
 use std::alloc::Global;
 use std::rc::Rc;
 use team_model::{Device, Member};
-use tg_text::{KeyId, Memory, Scope, UserName};
+use tg_text::{DeviceId, KeyId, Memory, Scope, UserName};
 
 // The scopes that stay live without a user. The devices of the user aren't among them.
 pub(crate) fn scopes_without(
@@ -113,6 +114,18 @@ fn unlisted(device: &Device, user: &UserName) -> Device
         device.listed = false;
     }
     device
+}
+
+/// The row of a device that is listed for a user. `seal` is its sealing public.
+pub fn listed_device(id: DeviceId, seal: [u8; 32], user: UserName) -> Device
+    ensures { result ≡ after.listed_device id seal user }
+{
+    Device {
+        id,
+        seal,
+        user,
+        listed: true,
+    }
 }
 
 /// A device that isn't listed.

@@ -1,7 +1,7 @@
 use Rattle.std.proofs.Common.{◌∙◌, ap}
 use Rattle.team_model.specs.Writes as after
 use Rattle.team_state.proofs.Written.{keys-ascend-kept, kept-device, kept-member, kept-read, live-ascend, state-read}
-use Rattle.team_state.proofs.state.TeamState.put_newcomer.Goals as goal
+use Rattle.team_state.proofs.state.TeamState.put_member_and_device.Goals as goal
 
 pub put_newcomer_rows-requires-clause-keys : goal.put_newcomer_rows-requires-clause-keys
 put_newcomer_rows-requires-clause-keys c = keys-ascend-kept _ _ _ c.self.invariant
