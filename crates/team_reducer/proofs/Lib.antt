@@ -1,3 +1,3 @@
 pub mod Firm
-pub mod Tables
 pub mod Sounding
+pub mod SoundTeams

@@ -1,31 +1,39 @@
 -- The state of every team is sound, and the three laws of the rules of acts.
-use Rattle.std.proofs.Common.{◌≡◌, ◌≤◌, ℕ, Bool, true, false, not, ◌&&◌, ◌||◌, cond, List, [], ◌∷◌, fold, length, Option, Some, None, is_none, nat_le, refl, sym, ◌∙◌, ap, subst, inl, inr, ◌⊎◌, arith}
-use Rattle.std.specs.List.{AllByRecursion, list_any}
+use Rattle.std.proofs.Common.{◌≡◌, ◌≤◌, Bool, true, false, not, ◌&&◌, cond, List, [], ◌∷◌, fold, length, Option, Some, None, is_none, refl, sym, ◌∙◌, ap, subst, inl, inr, ◌⊎◌, arith}
+use Rattle.std.specs.List.{AllByRecursion}
 use Rattle.std.specs.List.Sorted.{IsStrictlySortedBy}
 use Rattle.std.specs.Option.{option_map_or}
 use Rattle.std.specs.Cmp.Lexicographic.{nat_list_eq_equiv}
 use Rattle.sha2.specs.Sha256.{sha256}
-use Rattle.std.proofs.lemmas.Bool.{false≢true, and_parts, or_parts}
+use Rattle.std.proofs.lemmas.Bool.{false≢true, or_parts}
 use Rattle.team_sets.specs.Members.{IsIn}
 use Rattle.team_sets.specs.Names.{Name, has_name, same_name}
+use Rattle.team_sets.specs.SortedLaws.{IsAscending, by_names}
+use Rattle.tg_text.specs.declared.keys.BoxLine.{BoxLine}
+use Rattle.tg_text.specs.declared.keys.KeyId.{KeyId}
+use Rattle.key_reach.specs.Keys.{is_device}
 use Rattle.team_sets.proofs.Agree.{any_in}
 use Rattle.team_sets.proofs.Pasts.{any_of}
 use Rattle.acts.specs.declared.entry.Act.{Act}
-use Rattle.acts.specs.declared.entry.Act.TheVariants.{Found, AddMember, RemoveMember, AddRole, RemoveRole, GiveRole, TakeRole, AddDevice, RemoveDevice, Rotate, Seal, Title, Join}
+use Rattle.acts.specs.declared.entry.Act.TheVariants.{Found, AddMember, RemoveMember, AddRole, RemoveRole, GiveRole, TakeRole, AddDevice, RemoveDevice, Title}
 use Rattle.acts.specs.declared.entry.Entry.{Entry}
 use Rattle.team_model.specs.ActTable.{after, effect, first_reason, is_found, refusal, row_of}
 use Rattle.team_model.specs.CountingLaws.{IsByListed}
-use Rattle.team_model.specs.Limits.{most_roles}
-use Rattle.team_model.specs.State.{State, admin, device_row, empty_state, has_other_device, is_empty_state, is_given, is_listed, lists_device, lists_user}
+use Rattle.team_model.specs.Limits.{most_boxes}
+use Rattle.team_model.specs.State.{State, admin, device_row, empty_state, has_other_device, is_empty_state, is_listed, lists_device, lists_user}
 use Rattle.team_model.specs.Strikes.{brings_user}
-use Rattle.team_model.specs.Writes.{listed_device, unlisted, with_device, without_device}
+use Rattle.team_model.specs.Writes.{listed_device, unlisted, with_device}
 use Rattle.team_model.specs.declared.terms.Device.{Device}
 use Rattle.team_model.specs.declared.terms.Member.{Member}
 use Rattle.team_model.specs.declared.terms.Reason.{Reason}
 use Rattle.team_model.specs.declared.terms.Reason.TheVariants.{NotListed}
 use Rattle.team_model.proofs.Brought.{AllUnmet, all_unmet, by_listed, from_not, gives_to_listed, holder_listed, own_row, takes_from_holder, team_brings_in}
-use Rattle.team_reducer.specs.Sound.{BoxIsSound, IsManned, IsSound, has_device, made_by}
-use Rattle.team_reducer.proofs.Firm.{Firm, firm-device, firm-given, firm-newcomer, firm-role, firm-taken, firm-title, firm-without_device, firm-without_member, firm-without_role}
+use Rattle.team_state.specs.AscentLaws.{by_scopes}
+use Rattle.team_state.specs.Kept.{name_cmp}
+use Rattle.team_state.proofs.Lookups.{ascends-by, tables-ascend}
+use Rattle.team_state.proofs.Placed.{all-weaker}
+use Rattle.team_reducer.specs.Sound.{IsKeyed, IsManned, IsSound, goes_down, has_device, is_past, made_by}
+use Rattle.team_reducer.proofs.Firm.{Firm, Rises, firm-device, firm-given, firm-newcomer, firm-role, firm-taken, firm-title, firm-without_device, firm-without_member, firm-without_role}
 
 -- the three laws
 pub refused_stays : (s : State) (e : Entry) (reason : Reason) → refusal s e ≡ Some reason → after s e ≡ s
@@ -91,6 +99,7 @@ unfolding IsStrictlySortedBy
 founded e (Found seal title) is = (
   record {
     ordered = record { members = (tt, tt); roles = (tt, tt); devices = (tt, tt); invitations = tt; currents = tt; others = tt };
+    roles_rise = ((tt, tt), tt);
     administered = refl;
     equipped = λ u h. h;
     few_roles = omega arith;
@@ -148,15 +157,25 @@ made-all (e ∷ es) s made = made-all es (after s e) (made-after s e made)
 all-made : (entries : List Entry) → IsMade (made_by entries)
 all-made entries = made-all entries empty_state (record { stands = inl refl; no_currents = refl; no_boxes = refl })
 
+-- without keys and boxes a state is keyed, whatever else it has
+keyed_without : (s : State) → s.currents ≡ [] → s.boxes ≡ [] → IsKeyed s
+keyed_without s no_currents no_boxes = record {
+  currents = subst (λ ks. IsAscending by_scopes ks) (sym no_currents) tt;
+  others = subst (λ ks. AllByRecursion (λ (k : KeyId). is_device k.scope ≡ false) ks) (sym no_currents) tt;
+  contents = subst (λ bs. AllByRecursion (λ (b : BoxLine). is_device b.of.scope ≡ false) bs) (sym no_boxes) tt;
+  past = subst (λ bs. AllByRecursion (λ (b : BoxLine). (is_past s b.to ≡ true) × (is_past s b.of ≡ true)) bs) (sym no_boxes) tt;
+}
+
 sound_empty : IsSound empty_state
-unfolding IsStrictlySortedBy
 sound_empty = record {
-  ordered = record { members = tt; roles = tt; devices = tt; invitations = tt; currents = tt; others = tt };
+  tables = record { members = tt; roles = tt; devices = tt; invitations = tt; currents = tt };
+  roles_ascend = tt;
+  keyed = keyed_without empty_state refl refl;
   blank = λ h. refl;
   administered = λ h. absurd (false≢true (sym h));
   equipped = λ u h. absurd (false≢true h);
   few_roles = omega arith;
-  boxes = tt;
+  down = tt;
   few_boxes = omega arith;
 }
 
@@ -166,13 +185,16 @@ sound_made s made = go made.stands
     go : (s ≡ empty_state) ⊎ (Firm s × (is_empty_state s ≡ false)) → IsSound s
     go (inl none) = subst (λ t. IsSound t) (sym none) sound_empty
     go (inr full) = record {
-      ordered = full.0.ordered;
+      tables = tables-ascend s full.0.ordered;
+      roles_ascend =
+          all-weaker Rises (λ (m : Member). IsAscending (by_names (λ r. r)) m.roles) (λ m up. ascends-by name_cmp (λ n. n) m.roles up) s.members full.0.roles_rise;
+      keyed = keyed_without s made.no_currents made.no_boxes;
       blank = λ h. absurd (false≢true (sym full.1 ∙ h));
       administered = λ h. full.0.administered;
       equipped = full.0.equipped;
       few_roles = full.0.few_roles;
-      boxes = subst (λ bs. AllByRecursion (BoxIsSound s) bs) (sym made.no_boxes) tt;
-      few_boxes = subst (λ bs. length bs ≤ 65536) (sym made.no_boxes) (omega arith);
+      down = subst (λ bs. AllByRecursion (λ (b : BoxLine). goes_down s b ≡ true) bs) (sym made.no_boxes) tt;
+      few_boxes = subst (λ bs. length bs ≤ most_boxes) (sym made.no_boxes) (omega arith);
     }
 
 pub states_sound : (entries : List Entry) → IsSound (made_by entries)

@@ -2,7 +2,7 @@ ghost use Rattle.std.specs.Prelude.{◌≡◌, ◌+◌, IfOk, OnErr, OnOk};
 ghost use Rattle.team_model.specs.ActTable.{after, refusal};
 
 use crate::effects::act;
-use crate::laws::states_are_sound;
+use crate::laws::teams_are_sound;
 use crate::permitting::permits;
 use acts::Entry;
 use std::alloc::Global;
@@ -25,7 +25,7 @@ pub fn apply<L: StepLedger>(
     ensures step { steps.new ≡ steps.old + 1 }
 {
     // A law: it does nothing at run time.
-    states_are_sound();
+    teams_are_sound();
     steps.tick();
     if let Err(reason) = permits(state, entry) {
         return Ok(Some(reason));

@@ -1,17 +1,16 @@
 //! The effects of acts, each as the writes to the state's tables that the act table composes it of. Without memory the state is as
 //! before.
-ghost use Rattle.std.specs.Prelude.{◌≡◌, [], ◌∷◌, OnErr, OnOk};
-ghost use Rattle.sha2.specs.Sha256.{sha256};
+ghost use Rattle.std.specs.Prelude.{◌≡◌, OnErr, OnOk};
 ghost use Rattle.acts.specs.declared.entry.Act.TheVariants.{Found};
 ghost use Rattle.team_model.specs.ActTable.{effect};
 ghost use Rattle.team_model.specs.State.{drop_row, put_name, roles_of};
-ghost use Rattle.team_model.specs.Writes as after;
+ghost use Rattle.team_model.specs.Writes as writes;
 
+use crate::roles::{roles_with, roles_without};
 use acts::{Act, Entry, device_of};
 use std::alloc::Global;
-use team_model::{Device, Member};
-use team_state::TeamState;
-use tg_text::{DeviceId, Items, Memory, PublicKey, RoleName, Title, UserName};
+use team_state::{TeamState, listed_device};
+use tg_text::{Items, Memory, RoleName, Title, UserName};
 
 /// What an entry's act does by itself.
 pub(crate) fn act(alloc: Global, state: &mut TeamState, entry: &Entry) -> Result<(), Memory>
@@ -20,16 +19,25 @@ pub(crate) fn act(alloc: Global, state: &mut TeamState, entry: &Entry) -> Result
 {
     match &entry.act {
         Act::Found { seal, title } => found(alloc, state, entry, *seal, *title),
-        Act::AddMember { user, key, seal } => add_member(alloc, state, user, key, *seal),
+        Act::AddMember { user, key, seal } => state.put_newcomer(*user, device_of(key), *seal),
         Act::RemoveMember { user } => state.drop_member(user),
         Act::AddRole { role } => state.put_role(*role),
         Act::RemoveRole { role } => state.drop_role(role),
-        Act::GiveRole { user, role } => state.give_role(user, role),
-        Act::TakeRole { user, role } => state.take_role(user, role),
-        Act::AddDevice { key, seal } => add_device(state, entry, key, *seal),
+        Act::GiveRole { user, role } => give_role(alloc, state, user, role),
+        Act::TakeRole { user, role } => take_role(alloc, state, user, role),
+        Act::AddDevice { key, seal } => {
+            state.put_device(listed_device(device_of(key), *seal, entry.user))
+        }
         Act::RemoveDevice { hex, .. } => state.unlist_device(hex),
         Act::Title { title } => state.put_title(*title),
-        _ => Ok(()),
+        Act::InviteMember { .. }
+        | Act::InviteDevice { .. }
+        | Act::Revoke { .. }
+        | Act::AdmitMember { .. }
+        | Act::AdmitDevice { .. }
+        | Act::Rotate { .. }
+        | Act::Seal
+        | Act::Join => Ok(()),
     }
 }
 
@@ -49,52 +57,36 @@ fn found(
     let mut next = state.copy()?;
     next.put_title(title)?;
     next.put_role(RoleName::admin())?;
-    next.put_member(Member {
-        user: entry.user,
-        roles,
-    })?;
+    next.put_roles(entry.user, roles)?;
     next.put_device(listed_device(entry.device, seal, entry.user))?;
     *state = next;
     Ok(())
 }
 
-// The row of a device that is listed for a user.
-fn listed_device(id: DeviceId, seal: [u8; 32], user: UserName) -> Device
-    ensures { result ≡ after.listed_device id seal user }
-{
-    Device {
-        id,
-        seal,
-        user,
-        listed: true,
-    }
-}
-
-fn add_member(
+// Gives a user a role more.
+fn give_role(
     alloc: Global,
     state: &mut TeamState,
     user: &UserName,
-    key: &PublicKey,
-    seal: [u8; 32],
+    role: &RoleName,
 ) -> Result<(), Memory>
-    ensures ok { OnOk result (state.new ≡ after.with_newcomer state.old user.now (sha256 key.now) seal) }
+    ensures ok { OnOk result (state.new ≡ writes.with_roles state.old user.now (put_name role.now (roles_of state.old user.now))) }
     ensures err { OnErr result (state.new ≡ state.old) }
 {
-    let member = Member {
-        user: *user,
-        roles: Items::new(alloc),
-    };
-    state.put_newcomer(member, listed_device(device_of(key), seal, *user))
+    let roles = roles_with(alloc, state.roles_of(user), role)?;
+    state.put_roles(*user, Items::from_vec(roles))
 }
 
-fn add_device(
+// Takes a role from a user.
+fn take_role(
+    alloc: Global,
     state: &mut TeamState,
-    entry: &Entry,
-    key: &PublicKey,
-    seal: [u8; 32],
+    user: &UserName,
+    role: &RoleName,
 ) -> Result<(), Memory>
-    ensures ok { OnOk result (state.new ≡ after.with_device state.old (after.listed_device (sha256 key.now) seal entry.now.user)) }
+    ensures ok { OnOk result (state.new ≡ writes.with_roles state.old user.now (drop_row (λ r. r) role.now (roles_of state.old user.now))) }
     ensures err { OnErr result (state.new ≡ state.old) }
 {
-    state.put_device(listed_device(device_of(key), seal, entry.user))
+    let roles = roles_without(alloc, state.roles_of(user), role)?;
+    state.put_roles(*user, Items::from_vec(roles))
 }

@@ -5,8 +5,8 @@ ghost use Rattle.team_model.specs.ActTable.{first_reason, is_found, refusal, row
 ghost use Rattle.team_model.specs.State.{lists_device, lists_user};
 
 use crate::rows::{
-    add_device, add_member, add_role, found, give_role, refuse_if, remove_device, remove_member,
-    remove_role, rotate, take_role, title,
+    ask_add_device, ask_add_member, ask_add_role, ask_found, ask_give_role, ask_remove_device,
+    ask_remove_member, ask_remove_role, ask_rotate, ask_take_role, ask_title, refuse_if,
 };
 use acts::{Act, Entry};
 use team_model::Reason;
@@ -17,10 +17,10 @@ pub fn permits(state: &TeamState, entry: &Entry) -> Result<(), Reason>
     ensures { result_err result ≡ refusal state.now entry.now }
 {
     if is_found(&entry.act) {
-        return keeps_row(state, entry);
+        return ask_row(state, entry);
     }
-    is_by_listed(state, entry)?;
-    keeps_row(state, entry)
+    refuse_stranger(state, entry)?;
+    ask_row(state, entry)
 }
 
 fn is_found(act: &Act) -> bool
@@ -29,29 +29,36 @@ fn is_found(act: &Act) -> bool
     matches!(act, Act::Found { .. })
 }
 
-fn is_by_listed(state: &TeamState, entry: &Entry) -> Result<(), Reason>
+// An author who isn't listed is refused, and one who writes by a device that isn't listed for him.
+fn refuse_stranger(state: &TeamState, entry: &Entry) -> Result<(), Reason>
     ensures { result_err result ≡ first_reason ((not (lists_user state.now entry.now.user && lists_device state.now entry.now.user entry.now.device), Reason.NotListed) ∷ []) }
 {
     let is_listed = state.lists_user(&entry.user) && state.lists(&entry.user, &entry.device);
     refuse_if(!is_listed, Reason::NotListed)
 }
 
-// Whether no reason of the act's own row applies.
-fn keeps_row(state: &TeamState, entry: &Entry) -> Result<(), Reason>
+// The first reason of the act's own row that applies.
+fn ask_row(state: &TeamState, entry: &Entry) -> Result<(), Reason>
     ensures { result_err result ≡ first_reason (row_of sha256 state.now entry.now entry.now.act) }
 {
     match &entry.act {
-        Act::Found { .. } => found(state),
-        Act::AddMember { user, key, .. } => add_member(state, entry, user, key),
-        Act::RemoveMember { user } => remove_member(state, entry, user),
-        Act::AddRole { role } => add_role(state, entry, role),
-        Act::RemoveRole { role } => remove_role(state, entry, role),
-        Act::GiveRole { user, role } => give_role(state, entry, user, role),
-        Act::TakeRole { user, role } => take_role(state, entry, user, role),
-        Act::AddDevice { key, .. } => add_device(state, entry, key),
-        Act::RemoveDevice { user, hex } => remove_device(state, entry, user, hex),
-        Act::Rotate { scope } => rotate(state, entry, scope),
-        Act::Title { .. } => title(state, entry),
-        _ => Ok(()),
+        Act::Found { .. } => ask_found(state),
+        Act::AddMember { user, key, .. } => ask_add_member(state, entry, user, key),
+        Act::RemoveMember { user } => ask_remove_member(state, entry, user),
+        Act::AddRole { role } => ask_add_role(state, entry, role),
+        Act::RemoveRole { role } => ask_remove_role(state, entry, role),
+        Act::GiveRole { user, role } => ask_give_role(state, entry, user, role),
+        Act::TakeRole { user, role } => ask_take_role(state, entry, user, role),
+        Act::AddDevice { key, .. } => ask_add_device(state, entry, key),
+        Act::RemoveDevice { user, hex } => ask_remove_device(state, entry, user, hex),
+        Act::Rotate { scope } => ask_rotate(state, entry, scope),
+        Act::Title { .. } => ask_title(state, entry),
+        Act::InviteMember { .. }
+        | Act::InviteDevice { .. }
+        | Act::Revoke { .. }
+        | Act::AdmitMember { .. }
+        | Act::AdmitDevice { .. }
+        | Act::Seal
+        | Act::Join => Ok(()),
     }
 }

@@ -1,4 +1,5 @@
-//! The rows of the act table: for each act the conditions on which it is refused, in their order.
+//! The rows of the act table: for each act the conditions on which it is refused, in their order, and the reason of the first that
+//! holds.
 ghost use Rattle.std.specs.Prelude.{◌≡◌, not, [], ◌∷◌};
 ghost use Rattle.std.specs.Result.{result_err};
 ghost use Rattle.sha2.specs.Sha256.{sha256};
@@ -47,13 +48,13 @@ fn is_admin_role(role: &RoleName) -> bool
     *role == RoleName::admin()
 }
 
-pub(crate) fn found(state: &TeamState) -> Result<(), Reason>
+pub(crate) fn ask_found(state: &TeamState) -> Result<(), Reason>
     ensures { result_err result ≡ first_reason ((not (is_empty_state state.now), Reason.Present) ∷ []) }
 {
     refuse_if(!state.is_empty(), Reason::Present)
 }
 
-pub(crate) fn add_member(
+pub(crate) fn ask_add_member(
     state: &TeamState,
     entry: &Entry,
     user: &UserName,
@@ -62,11 +63,11 @@ pub(crate) fn add_member(
     ensures { result_err result ≡ first_reason ((lacks_admin state.now entry.now, Reason.NotAdmin) ∷ newcomer_conditions state.now user.now (sha256 key.now)) }
 {
     refuse_if(lacks_admin(state, entry), Reason::NotAdmin)?;
-    may_come(state, user, &device_of(key))
+    ask_newcomer(state, user, &device_of(key))
 }
 
-// Whether a user may come anew, with a first device.
-fn may_come(state: &TeamState, user: &UserName, device: &DeviceId) -> Result<(), Reason>
+// Why a user may not come anew, with a first device.
+fn ask_newcomer(state: &TeamState, user: &UserName, device: &DeviceId) -> Result<(), Reason>
     ensures { result_err result ≡ first_reason (newcomer_conditions state.now user.now device.now) }
 {
     let is_present = state.lists_user(user) || state.is_listed(device);
@@ -77,7 +78,11 @@ fn may_come(state: &TeamState, user: &UserName, device: &DeviceId) -> Result<(),
     refuse_if(is_full, Reason::TooMany)
 }
 
-pub(crate) fn remove_member(state: &TeamState, entry: &Entry, user: &UserName) -> Result<(), Reason>
+pub(crate) fn ask_remove_member(
+    state: &TeamState,
+    entry: &Entry,
+    user: &UserName,
+) -> Result<(), Reason>
     ensures { result_err result ≡ first_reason (row_of sha256 state.now entry.now (RemoveMember user.now)) }
 {
     refuse_if(meddles(state, entry, user), Reason::NotAdmin)?;
@@ -85,7 +90,7 @@ pub(crate) fn remove_member(state: &TeamState, entry: &Entry, user: &UserName) -
     refuse_if(state.is_only_admin(user), Reason::LastAdmin)
 }
 
-pub(crate) fn add_role(state: &TeamState, entry: &Entry, role: &RoleName) -> Result<(), Reason>
+pub(crate) fn ask_add_role(state: &TeamState, entry: &Entry, role: &RoleName) -> Result<(), Reason>
     ensures { result_err result ≡ first_reason (row_of sha256 state.now entry.now (AddRole role.now)) }
 {
     refuse_if(is_admin_role(role), Reason::Reserved)?;
@@ -94,7 +99,11 @@ pub(crate) fn add_role(state: &TeamState, entry: &Entry, role: &RoleName) -> Res
     refuse_if(state.roles().len() >= MOST_ROLES, Reason::TooMany)
 }
 
-pub(crate) fn remove_role(state: &TeamState, entry: &Entry, role: &RoleName) -> Result<(), Reason>
+pub(crate) fn ask_remove_role(
+    state: &TeamState,
+    entry: &Entry,
+    role: &RoleName,
+) -> Result<(), Reason>
     ensures { result_err result ≡ first_reason (row_of sha256 state.now entry.now (RemoveRole role.now)) }
 {
     refuse_if(is_admin_role(role), Reason::Reserved)?;
@@ -103,7 +112,7 @@ pub(crate) fn remove_role(state: &TeamState, entry: &Entry, role: &RoleName) -> 
     refuse_if(state.is_given(role), Reason::NotEmpty)
 }
 
-pub(crate) fn give_role(
+pub(crate) fn ask_give_role(
     state: &TeamState,
     entry: &Entry,
     user: &UserName,
@@ -117,7 +126,7 @@ pub(crate) fn give_role(
     refuse_if(state.has_role(user, role), Reason::Present)
 }
 
-pub(crate) fn take_role(
+pub(crate) fn ask_take_role(
     state: &TeamState,
     entry: &Entry,
     user: &UserName,
@@ -131,14 +140,18 @@ pub(crate) fn take_role(
     refuse_if(is_last, Reason::LastAdmin)
 }
 
-pub(crate) fn add_device(state: &TeamState, entry: &Entry, key: &PublicKey) -> Result<(), Reason>
+pub(crate) fn ask_add_device(
+    state: &TeamState,
+    entry: &Entry,
+    key: &PublicKey,
+) -> Result<(), Reason>
     ensures { result_err result ≡ first_reason (device_conditions state.now entry.now.user (sha256 key.now)) }
 {
-    may_join(state, &entry.user, &device_of(key))
+    ask_device(state, &entry.user, &device_of(key))
 }
 
-// Whether a further device may be listed for a user.
-fn may_join(state: &TeamState, user: &UserName, device: &DeviceId) -> Result<(), Reason>
+// Why a further device may not be listed for a user.
+fn ask_device(state: &TeamState, user: &UserName, device: &DeviceId) -> Result<(), Reason>
     ensures { result_err result ≡ first_reason (device_conditions state.now user.now device.now) }
 {
     refuse_if(state.is_listed(device), Reason::Present)?;
@@ -148,7 +161,7 @@ fn may_join(state: &TeamState, user: &UserName, device: &DeviceId) -> Result<(),
     refuse_if(is_full, Reason::TooMany)
 }
 
-pub(crate) fn remove_device(
+pub(crate) fn ask_remove_device(
     state: &TeamState,
     entry: &Entry,
     user: &UserName,
@@ -161,7 +174,7 @@ pub(crate) fn remove_device(
     refuse_if(!state.has_other_device(user, device), Reason::LastDevice)
 }
 
-pub(crate) fn rotate(state: &TeamState, entry: &Entry, scope: &Scope) -> Result<(), Reason>
+pub(crate) fn ask_rotate(state: &TeamState, entry: &Entry, scope: &Scope) -> Result<(), Reason>
     ensures { result_err result ≡ first_reason (row_of sha256 state.now entry.now (Rotate scope.now)) }
 {
     refuse_if(!state.live(scope), Reason::Absent)?;
@@ -197,7 +210,7 @@ fn is_at_end(state: &TeamState, scope: &Scope) -> bool
     }
 }
 
-pub(crate) fn title(state: &TeamState, entry: &Entry) -> Result<(), Reason>
+pub(crate) fn ask_title(state: &TeamState, entry: &Entry) -> Result<(), Reason>
     ensures { result_err result ≡ first_reason ((lacks_admin state.now entry.now, Reason.NotAdmin) ∷ []) }
 {
     refuse_if(lacks_admin(state, entry), Reason::NotAdmin)
