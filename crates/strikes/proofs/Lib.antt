@@ -1,3 +1,5 @@
+mod Deciders
+mod Larger
 mod Noting
 mod PlaceOrder
 mod RemovalRanks

@@ -1,5 +1,5 @@
 -- Seniority tells lawful removals apart, so each stands unless a more senior one takes it out.
-use Rattle.std.proofs.Common.{◌≡◌, ℕ, Bool, true, false, not, ◌&&◌, ◌||◌, List, [], ◌∷◌, filter, refl, sym, ◌∙◌, ap, inl, inr, ◌⊎◌, is_none}
+use Rattle.std.proofs.Common.{◌≡◌, true, not, ◌&&◌, ◌||◌, List, [], ◌∷◌, refl, sym, ◌∙◌, ap, inl, inr, ◌⊎◌, is_none}
 use Rattle.std.specs.Cmp.{IsTotalOrder}
 use Rattle.std.specs.Cmp.Lexicographic.{nat_list_cmp_total, slice_cmp}
 use Rattle.std.specs.List.{AllByRecursion}
@@ -8,14 +8,14 @@ use Rattle.std.specs.declared.cmp.Ordering.{Ordering}
 use Rattle.std.specs.declared.cmp.Ordering.TheVariants.{Less, Equal, Greater}
 use Rattle.std.proofs.lemmas.Bool.{false≢true}
 use Rattle.std.proofs.lemmas.Cmp.{on_total, then_total}
-use Rattle.team_sets.specs.Names.{Name, name_lt, same_name}
+use Rattle.team_sets.specs.Names.{name_lt}
 use Rattle.team_sets.specs.Members.{IsIn}
 use Rattle.team_sets.specs.Settlement.{standing}
 use Rattle.team_sets.specs.OrderLaws.{IsSet, NamesDiffer}
 use Rattle.team_sets.specs.SortedLaws.{AreApart, IsStrict}
 use Rattle.team_sets.proofs.Ancestors.{order_first}
 use Rattle.team_sets.proofs.Arrivals.{first_set}
-use Rattle.team_sets.proofs.Sorted.{name_lt-apart, set-apart}
+use Rattle.team_sets.proofs.Sorted.{set-apart}
 use Rattle.team_sets.proofs.SameSet.{set-filter}
 use Rattle.team_model.specs.Strikes.{is_striking}
 use Rattle.team_model.specs.Judging.{Rules, name_of, prev_of, order_of, place_of, is_senior, seniority, strikers, lawful, strikes_among, unlawful_reason}
@@ -42,7 +42,7 @@ module _ (links law : List Link) where
       go Equal t s e = rw e refl
       go Greater t s e = rw e refl
 
-  strict : IsStrict (is_senior links law)
+  pub strict : IsStrict (is_senior links law)
   strict = record {
     asymmetric = λ x y h. by-rank y x ∙ ap is_lt (rank-total.antisymm y x ∙ ap ordering_reverse (less (rank_cmp x y) (sym (by-rank x y) ∙ h)));
     transitive = λ x y z h k. by-rank x z ∙ ap is_lt (rank-total.trans x y z (less (rank_cmp x y) (sym (by-rank x y) ∙ h)) (less (rank_cmp y z) (sym (by-rank y z) ∙ k)));
@@ -76,13 +76,17 @@ module _ (links law : List Link) where
       all [] k = tt
       all (y ∷ ys) k = (differ-rank x y k.0, all ys k.1)
 
-pub senior-stands : SeniorStands
-senior-stands rules links differ x k =
-    go (stands-unless (is_senior links (lawful rules links)) (strikes_among rules.device_of links) (strict links (lawful rules links)) (strikers links (lawful rules links)) (apart links (lawful rules links) (strikers links (lawful rules links)) (set-apart name_of (strikers links (lawful rules links)) set)) x k)
+-- seniority tells the lawful removals apart
+pub removals-apart : (rules : Rules) (links : List Link) → NamesDiffer name_of links → AreApart (is_senior links (lawful rules links)) (strikers links (lawful rules links))
+removals-apart rules links differ = apart links (lawful rules links) (strikers links (lawful rules links)) (set-apart name_of (strikers links (lawful rules links)) set)
   where
     set : IsSet name_of (strikers links (lawful rules links))
     set = set-filter name_of (λ x. is_striking x.entry.act) (lawful rules links) (set-filter name_of (λ x. is_none (unlawful_reason rules links x)) (order_of links) (first_set name_of prev_of [] (order_of links) (order_first name_of prev_of links differ)))
 
+pub senior-stands : SeniorStands
+senior-stands rules links differ x k =
+    go (stands-unless (is_senior links (lawful rules links)) (strikes_among rules.device_of links) (strict links (lawful rules links)) (strikers links (lawful rules links)) (removals-apart rules links differ) x k)
+  where
     go : (IsIn x (standing (is_senior links (lawful rules links)) (strikes_among rules.device_of links) (strikers links (lawful rules links))) × IsUnmet (is_senior links (lawful rules links)) (strikes_among rules.device_of links) (strikers links (lawful rules links)) x)
         ⊎ ((s : Link) × TakesOut (is_senior links (lawful rules links)) (strikes_among rules.device_of links) (strikers links (lawful rules links)) x s)
         → IsIn x (standing_removals rules links) ⊎ ((s : Link) × IsTakenOutBy rules links x s)
