@@ -34,10 +34,13 @@ fn is_read_yet(act: &Act) -> bool
     match act {
         Act::Found { .. } => true,
         Act::AddMember { .. } => true,
+        Act::RemoveMember { .. } => true,
         Act::AddRole { .. } => true,
         Act::RemoveRole { .. } => true,
         Act::GiveRole { .. } => true,
+        Act::TakeRole { .. } => true,
         Act::AddDevice { .. } => true,
+        Act::RemoveDevice { .. } => true,
         Act::Rotate { .. } => true,
         Act::Seal => true,
         Act::Title { .. } => true,
