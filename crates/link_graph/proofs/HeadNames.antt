@@ -1,7 +1,7 @@
 -- The heads, as links connect one by one.
 use Rattle.std.proofs.Common.{◌≡◌, ◌+◌, ◌<◌, ℕ, suc, Bool, true, false, not, ◌&&◌, ◌||◌, cond, List, [], ◌∷◌, ◌++◌, append_assoc, append-nil, refl, sym, ◌∙◌, ap, subst, inl, inr, length, filter, insert, drop, get_or, add-one, drop-cons}
 use Rattle.std.specs.List.{AllByRecursion, IsDistinct, list_all}
-use Rattle.std.proofs.lemmas.Bool.{false≢true, and_parts, not-true}
+use Rattle.std.proofs.lemmas.Bool.{false_from_ne_true, false≢true, and_parts, not-true}
 use Rattle.std.proofs.lemmas.List.{map-append, map-id}
 use Rattle.std.proofs.lemmas.List.Elements.{filter-append}
 use Rattle.std.proofs.lemmas.List.Folds.{list_any-append}
@@ -13,6 +13,7 @@ use Rattle.team_sets.specs.OrderLaws.{IsSet, ParentsFirst}
 use Rattle.team_sets.specs.SortedLaws.{IsAscending, AreApart, IsStrict}
 use Rattle.team_sets.proofs.Agree.{any_in, same_answer}
 use Rattle.team_sets.proofs.Arrivals.{first_set}
+use Rattle.team_sets.proofs.Lists.{or_false}
 use Rattle.team_sets.proofs.OrderLeast.{in_filter, of_filter}
 use Rattle.team_sets.proofs.Pasts.{all_names, any_of}
 use Rattle.team_sets.proofs.SameSet.{set-filter}
@@ -95,15 +96,7 @@ filter_like p q [] same = refl
 filter_like p q (n ∷ ns) same = rw (same n, filter_like p q ns same) refl
 
 parent_push : (links : List Link) (x : Link) (n : Name) → is_parent_in (links ++ x ∷ []) n ≡ (is_parent_in links n || has_name x.prev n)
-parent_push links x n = list_any-append (λ (y : Link). has_name y.prev n) links (x ∷ []) ∙ ap (λ b. is_parent_in links n || b) (or_none (has_name x.prev n))
-  where
-    or_none : (b : Bool) → (b || false) ≡ b
-    or_none true = refl
-    or_none false = refl
-
-refuted : (b : Bool) → ¬ (b ≡ true) → b ≡ false
-refuted false h = refl
-refuted true h = absurd (h refl)
+parent_push links x n = list_any-append (λ (y : Link). has_name y.prev n) links (x ∷ []) ∙ ap (λ b. is_parent_in links n || b) (or_false (has_name x.prev n))
 
 -- every parent of one of the links is one of them
 abbrev Closed : List Link → Type 0
@@ -130,8 +123,8 @@ heads_more links x set closed next =
     let ns : List Name = names name_of links in
     let parts = and_parts (not (has_name (names name_of links) x.name)) (list_all (has_name (names name_of links)) x.prev) next in
     let fresh : has_name (names name_of links) x.name ≡ false = not-true (has_name (names name_of links) x.name) parts.0 in
-    let no_child : is_parent_in links x.name ≡ false = refuted (is_parent_in links x.name) (λ h. false≢true (sym fresh ∙ closed x.name h)) in
-    let not_own : has_name x.prev x.name ≡ false = refuted (has_name x.prev x.name) (λ h. false≢true (sym fresh ∙ all_names (has_name (names name_of links)) x.prev x.name parts.1 h)) in
+    let no_child : is_parent_in links x.name ≡ false = false_from_ne_true (is_parent_in links x.name) (λ h. false≢true (sym fresh ∙ closed x.name h)) in
+    let not_own : has_name x.prev x.name ≡ false = false_from_ne_true (has_name x.prev x.name) (λ h. false≢true (sym fresh ∙ all_names (has_name (names name_of links)) x.prev x.name parts.1 h)) in
     let head : is_parent_in (links ++ x ∷ []) x.name ≡ false = parent_push links x x.name ∙ rw (no_child, not_own) refl in
     let old : List Name = filter (λ n. not (is_parent_in links n)) (names name_of links) in
     let tests : (n : Name) → not (is_parent_in (links ++ x ∷ []) n) ≡ (not (is_parent_in links n) && not (has_name x.prev n)) =

@@ -1,3 +1,4 @@
+pub mod Ancestries
 pub mod Answering
 pub mod ChildLists
 pub mod Exactly
@@ -7,6 +8,7 @@ pub mod HeadNames
 pub mod Lining
 pub mod Names
 pub mod NextOnes
+pub mod Parenting
 pub mod Rows
 pub mod Sizing
 pub mod Waits

@@ -10,11 +10,11 @@ use Rattle.team_sets.specs.Insertion.{is_parent_of, place_in}
 use Rattle.team_sets.specs.Order.{is_next, names}
 use Rattle.team_sets.specs.OrderLaws.{ParentsFirst}
 use Rattle.team_sets.proofs.Inserts.{insertion_turn}
+use Rattle.team_sets.proofs.Lists.{some_at}
 use Rattle.team_model.specs.Judging.{name_of, prev_of, order_of}
 use Rattle.team_model.specs.declared.terms.Link.{Link}
 use Rattle.link_graph.specs.Lines.{place_index}
 use Rattle.link_graph.specs.Positions.{at_places}
-use Rattle.link_graph.proofs.Names.{some_at}
 
 module _ {A : Type 0} where
   -- what stands at places that are all there

@@ -9,23 +9,11 @@ use Rattle.std.proofs.lemmas.List.Quantifiers.{position-Some}
 use Rattle.std.proofs.lemmas.Bool.{false≢true, or_parts}
 use Rattle.team_sets.specs.Names.{Name, same_name, has_name}
 use Rattle.team_sets.specs.Order.{names}
+use Rattle.team_sets.proofs.Lists.{same_flip, some_at}
 use Rattle.team_model.specs.Judging.{name_of}
 use Rattle.team_model.specs.declared.terms.Link.{Link}
 use Rattle.link_text.specs.LinkText.{text}
 use Rattle.link_graph.specs.Holds.{text_entry, text_named}
-
-pub same_flip : (a b : Name) → same_name a b ≡ same_name b a
-same_flip a b = go (same_name a b) refl (same_name b a) refl
-  where
-    go : (p : Bool) → same_name a b ≡ p → (q : Bool) → same_name b a ≡ q → p ≡ q
-    go true e true f = refl
-    go false e false f = refl
-    go true e false f = absurd (false≢true (sym f ∙ (bytes_decides b a).1 (sym ((bytes_decides a b).0 e))))
-    go false e true f = absurd (false≢true (sym e ∙ (bytes_decides a b).1 (sym ((bytes_decides b a).0 f))))
-
-pub has_name-any : (ms : List Name) (n : Name) → list_any (λ m. same_name m n) ms ≡ has_name ms n
-has_name-any [] n = refl
-has_name-any (m ∷ ms) n = ap (λ b. same_name m n || b) (has_name-any ms n)
 
 module _ {X : Type 0} where
   -- a map has a key where that is one of its keys
@@ -54,11 +42,6 @@ lookup_text n (x ∷ xs) = go (same_name n x.name) (lookup_text n xs)
     go : (b : Bool) → lookup (same_name n) (map text_entry xs) ≡ text_named xs n → cond b (Some (text x)) (lookup (same_name n) (map text_entry xs)) ≡ option_map text (cond b (Some x) (find (λ l. same_name n l.name) xs))
     go true h = refl
     go false h = h
-
-pub some_at : {A : Type 0} (xs : List A) (p : ℕ) → p < length xs → (x : A) × (slice_get xs p ≡ Some x)
-some_at [] p h = absurd (omega arith)
-some_at (y ∷ ys) zero h = (y, refl)
-some_at (y ∷ ys) (suc p) h = some_at ys p (omega arith)
 
 pub get_at : {A : Type 0} (xs : List A) (p : ℕ) (x d : A) → slice_get xs p ≡ Some x → get_or xs p d ≡ x
 get_at {A} [] p x d e = absurd (let bad : ◌≡◌ {A = Option A} None (Some x) = e in cc)

@@ -5,7 +5,7 @@ use Rattle.std.specs.Cmp.Lexicographic.{bytes_decides, slice_cmp, nat_list_cmp_t
 use Rattle.std.specs.Ordering.{is_eq, is_gt, is_lt, nat_cmp, ordering_reverse}
 use Rattle.std.specs.declared.cmp.Ordering.{Ordering}
 use Rattle.std.specs.declared.cmp.Ordering.TheVariants.{Less, Equal, Greater}
-use Rattle.std.proofs.lemmas.Bool.{false≢true, and_parts, not-true}
+use Rattle.std.proofs.lemmas.Bool.{false_from_ne_true, false≢true, and_parts, not-true}
 use Rattle.std.proofs.lemmas.List.{length_push}
 use Rattle.std.proofs.lemmas.Option.{slice_get_read}
 use Rattle.std.proofs.lemmas.List.Elements.{filter_map-append}
@@ -17,6 +17,7 @@ use Rattle.team_sets.specs.OrderLaws.{IsSet, NamesDiffer}
 use Rattle.team_sets.proofs.Agree.{any_in}
 use Rattle.team_sets.proofs.Connects.{least_is}
 use Rattle.team_sets.proofs.Distinct.{distinct-differ}
+use Rattle.team_sets.proofs.Lists.{any_alike, or_assoc, or_false, same_flip}
 use Rattle.team_sets.proofs.OrderLeast.{in_filter, of_filter}
 use Rattle.team_sets.proofs.Parts.{filter_none, name_in}
 use Rattle.team_sets.proofs.Pasts.{all_names, any_of}
@@ -25,15 +26,11 @@ use Rattle.team_model.specs.declared.terms.Link.{Link}
 use Rattle.link_graph.specs.Children.{named, child_places}
 use Rattle.link_graph.specs.Positions.{at_places, may_stand, IsReady}
 use Rattle.link_graph.proofs.ChildLists.{named-more, take_front}
-use Rattle.link_graph.proofs.Names.{has_by_order, same_flip}
+use Rattle.link_graph.proofs.Names.{has_by_order}
 
 -- the link has this name, and may connect
 abbrev pub is_ready : List Name → Name → Link → Bool
 is_ready ns n z = same_name z.name n && may_stand ns z
-
-any_alike : (p q : Link → Bool) (xs : List Link) → ((x : Link) → p x ≡ q x) → list_any p xs ≡ list_any q xs
-any_alike p q [] same = refl
-any_alike p q (x ∷ xs) same = rw (same x, any_alike p q xs same) refl
 
 swap_or : (a b c d : Bool) → ((a || b) || (c || d)) ≡ ((a || c) || (b || d))
 swap_or true b c d = refl
@@ -100,15 +97,7 @@ child_bound i n (x ∷ xs) m h =
 
 pub has_push : (ns : List Name) (m n : Name) → has_name (ns ++ m ∷ []) n ≡ (has_name ns n || same_name m n)
 has_push [] m n = or_false (same_name m n)
-  where
-    or_false : (b : Bool) → (b || false) ≡ b
-    or_false true = refl
-    or_false false = refl
-has_push (k ∷ ks) m n = ap (λ b. same_name k n || b) (has_push ks m n) ∙ or_assoc (same_name k n) (has_name ks n) (same_name m n)
-  where
-    or_assoc : (a b c : Bool) → (a || (b || c)) ≡ ((a || b) || c)
-    or_assoc true b c = refl
-    or_assoc false b c = refl
+has_push (k ∷ ks) m n = ap (λ b. same_name k n || b) (has_push ks m n) ∙ sym (or_assoc (same_name k n) (has_name ks n) (same_name m n))
 
 all_apart : (ns : List Name) (m : Name) (ms : List Name) → has_name ms m ≡ false → list_all (has_name (ns ++ m ∷ [])) ms ≡ list_all (has_name ns) ms
 all_apart ns m [] e = refl
@@ -118,15 +107,8 @@ all_apart ns m (k ∷ ks) e = go (same_name k m) refl e (all_apart ns m ks)
         → list_all (has_name (ns ++ m ∷ [])) (k ∷ ks) ≡ list_all (has_name ns) (k ∷ ks)
     go true s f more = absurd (false≢true (sym f))
     go false s f more =
-        let other : has_name (ns ++ m ∷ []) k ≡ has_name ns k = has_push ns m k ∙ ap (λ b. has_name ns k || b) (same_flipped k m s) ∙ or_none (has_name ns k) in
+        let other : has_name (ns ++ m ∷ []) k ≡ has_name ns k = has_push ns m k ∙ ap (λ b. has_name ns k || b) (same_flip m k ∙ s) ∙ or_false (has_name ns k) in
         rw (other, more f) refl
-      where
-        or_none : (b : Bool) → (b || false) ≡ b
-        or_none true = refl
-        or_none false = refl
-
-        same_flipped : (a b : Name) → same_name a b ≡ false → same_name b a ≡ false
-        same_flipped a b h = sym (same_flip a b) ∙ h
 
 none_of : (b c : Bool) → false ≡ ((b && false) || (c && false))
 none_of true true = refl
@@ -154,12 +136,8 @@ step_at ns m n z fresh = named_so (same_name z.name n) refl
     for_child : (c : Bool) → has_name z.prev m ≡ c → z.name ≡ n
         → may_stand (ns ++ m ∷ []) z ≡ ((not (same_name m n) && may_stand ns z) || (c && may_stand (ns ++ m ∷ []) z))
     for_child true e is =
-        let gone : list_all (has_name ns) z.prev ≡ false = refuted (list_all (has_name ns) z.prev) (λ all. false≢true (sym fresh ∙ all_names (has_name ns) z.prev m all e)) in
+        let gone : list_all (has_name ns) z.prev ≡ false = false_from_ne_true (list_all (has_name ns) z.prev) (λ all. false≢true (sym fresh ∙ all_names (has_name ns) z.prev m all e)) in
         rw gone (lost (same_name m n) (has_name ns z.name) (may_stand (ns ++ m ∷ []) z))
-      where
-        refuted : (b : Bool) → ¬ (b ≡ true) → b ≡ false
-        refuted false h = refl
-        refuted true h = absurd (h refl)
     for_child false e is =
         let other : same_name m z.name ≡ same_name m n = ap (λ (k : Name). same_name m k) is in
         rw (has_push ns m z.name, all_apart ns m z.prev e, other) (moved (has_name ns z.name) (same_name m n) (list_all (has_name ns) z.prev))
@@ -172,7 +150,7 @@ step_at ns m n z fresh = named_so (same_name z.name n) refl
 ready_step : (links : List Link) (ns : List Name) (m n : Name) → has_name ns m ≡ false
     → ((not (same_name m n) && list_any (is_ready ns n) links) || list_any (λ z. has_name z.prev m && is_ready (ns ++ m ∷ []) n z) links) ≡ list_any (is_ready (ns ++ m ∷ []) n) links
 ready_step links ns m n fresh =
-    sym (any_alike (is_ready (ns ++ m ∷ []) n) (λ z. (not (same_name m n) && is_ready ns n z) || (has_name z.prev m && is_ready (ns ++ m ∷ []) n z)) links (λ z. step_at ns m n z fresh)
+    sym (any_alike (is_ready (ns ++ m ∷ []) n) (λ z. (not (same_name m n) && is_ready ns n z) || (has_name z.prev m && is_ready (ns ++ m ∷ []) n z)) links (λ z k. step_at ns m n z fresh)
     ∙ any_or (λ z. not (same_name m n) && is_ready ns n z) (λ z. has_name z.prev m && is_ready (ns ++ m ∷ []) n z) links
     ∙ ap (λ b. b || list_any (λ z. has_name z.prev m && is_ready (ns ++ m ∷ []) n z) links) (any_and (not (same_name m n)) (is_ready ns n) links))
 
@@ -219,13 +197,9 @@ first_ready links placed ready m y set is has lower held so =
 
 pub none_ready : (links placed : List Link) (ready : List Name) → IsReady links (names name_of placed) ready → ready ≡ [] → least name_of (filter (is_next name_of prev_of placed) links) ≡ None
 none_ready links placed ready is none =
-    ap (λ l. least name_of l) (filter_none name_of prev_of (is_next name_of prev_of placed) links (λ x k. refuted (is_next name_of prev_of placed x) (λ e.
+    ap (λ l. least name_of l) (filter_none name_of prev_of (is_next name_of prev_of placed) links (λ x k. false_from_ne_true (is_next name_of prev_of placed x) (λ e.
     let one : is_ready (names name_of placed) x.name x ≡ true = rw ((bytes_decides x.name x.name).1 refl) e in
     false≢true (ap (λ (l : List Name). has_name l x.name) (sym none) ∙ is x.name ∙ any_in (is_ready (names name_of placed) x.name) links x k one))))
-  where
-    refuted : (b : Bool) → ¬ (b ≡ true) → b ≡ false
-    refuted false h = refl
-    refuted true h = absurd (h refl)
 
 -- what a set of names in order says of its first
 pub lower : (m q : Name) → is_gt (slice_cmp nat_cmp m q) ≡ false → name_lt q m ≡ false

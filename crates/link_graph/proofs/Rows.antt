@@ -9,6 +9,7 @@ use Rattle.team_sets.specs.Names.{Name}
 use Rattle.team_sets.specs.Order.{names}
 use Rattle.team_sets.specs.OrderLaws.{ParentsFirst}
 use Rattle.team_sets.proofs.Ancestors.{first_take, next_at}
+use Rattle.team_sets.proofs.Lists.{take_next}
 use Rattle.team_model.specs.Judging.{name_of, prev_of}
 use Rattle.team_model.specs.declared.terms.Link.{Link}
 use Rattle.link_graph.specs.Heads.{heads_with}
@@ -17,11 +18,6 @@ use Rattle.link_graph.specs.Positions.{at_places, HasEntries, linked}
 use Rattle.link_graph.specs.declared.lineup.Lineup.{Lineup}
 use Rattle.link_graph.proofs.Fitting.{keys_linked, length-linked}
 use Rattle.link_graph.proofs.Lining.{all_insert, all_more, at_front, at_map, length_at, order_more}
-
-take_next : {A : Type 0} (xs : List A) (k : ℕ) (x : A) → slice_get xs k ≡ Some x → take (k + 1) xs ≡ take k xs ++ x ∷ []
-take_next {A} [] k x e = absurd (let bad : ◌≡◌ {A = Option A} None (Some x) = e in cc)
-take_next (y ∷ ys) zero x e = let same : y ≡ x = cc in rw same refl
-take_next (y ∷ ys) (suc k) x e = rw add-one (ap (λ l. y ∷ l) (rw add-one at (take_next ys k x e)))
 
 length_part : {A : Type 0} (xs : List A) (k : ℕ) → k ≤ length xs → length (take k xs) ≡ k
 length_part xs zero h = refl

@@ -2,7 +2,7 @@
 use Rattle.std.proofs.Common.{◌≡◌, ◌↔◌, ◌<◌, ◌-◌, ℕ, Bool, true, false, ◌||◌, List, [], ◌∷◌, ◌++◌, refl, sym, ◌∙◌, ap, subst, length, length-append, arith}
 use Rattle.std.specs.List.{list_all, range_with_len}
 use Rattle.std.specs.Cmp.Lexicographic.{bytes_decides}
-use Rattle.std.proofs.lemmas.Bool.{false≢true, and_parts, le-ltb, lt-ltb, or_right}
+use Rattle.std.proofs.lemmas.Bool.{false_from_ne_true, false≢true, and_parts, le-ltb, lt-ltb, or_right}
 use Rattle.std.proofs.lemmas.List.{length_push, map-append}
 use Rattle.team_sets.specs.Names.{Name, same_name, has_name}
 use Rattle.team_sets.specs.Members.{IsIn}
@@ -48,14 +48,10 @@ module _ (links : List Link) (l : Link) (set : IsSet name_of (links ++ l ∷ [])
 
   -- it isn't connected before it comes
   unheld : has_name (names name_of (arrived_of links)) l.name ≡ false
-  unheld = refuted (has_name (names name_of (arrived_of links)) l.name) (λ h.
+  unheld = false_from_ne_true (has_name (names name_of (arrived_of links)) l.name) (λ h.
       let y = one_named name_of (arrived_of links) l.name h in
       let there : IsIn y.0 links = all_at (λ x. IsIn x links) (arrived_of links) (arrived_arranged name_of prev_of links).of_links y.0 y.1 in
       false≢true (sym fresh ∙ subst (λ (n : Name). has_name (names name_of links) n ≡ true) y.2 (name_in name_of prev_of links y.0 there y.0.name refl)))
-    where
-      refuted : (b : Bool) → ¬ (b ≡ true) → b ≡ false
-      refuted false h = refl
-      refuted true h = absurd (h refl)
 
   -- where its parents are connected, it connects
   connects : list_all (has_name (names name_of (arrived_of links))) l.prev ≡ true

@@ -6,6 +6,7 @@ pub mod Heads
 pub mod Held
 pub mod Holds
 pub mod Lines
+pub mod Parentage
 pub mod Positions
 pub mod Sizes
 pub mod Taking

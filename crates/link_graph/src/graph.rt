@@ -1,25 +1,29 @@
-ghost use Rattle.std.specs.Prelude.{◌≡◌, ◌<◌, ◌≤◌, ◌++◌, [], ◌∷◌, length, position, Some, slice_get, option_map, All, IfErr, IfOk, OnErr, OnOk};
+ghost use Rattle.std.specs.Prelude.{◌≡◌, ◌<◌, ◌≤◌, ◌++◌, [], ◌∷◌, length, position, Some, slice_get, option_map, All, IfErr, IfOk, IfSome, OnErr, OnOk};
 ghost use Rattle.sha2.specs.Sha256.{sha256};
 ghost use Rattle.tg_text.specs.Limits.{most_link_bytes};
 ghost use Rattle.team_sets.specs.Names.{has_name, same_name};
+ghost use Rattle.team_sets.specs.Ancestry.{height};
 ghost use Rattle.team_sets.specs.Order.{names};
-ghost use Rattle.team_model.specs.Judging.{name_of, order_of};
+ghost use Rattle.team_model.specs.Judging.{name_of, order_of, prev_of};
 ghost use Rattle.link_text.specs.LinkText.{IsValid, text};
 ghost use Rattle.link_text.specs.TeamFile.{IsHeld, file_text};
 ghost use Rattle.link_graph.specs.Causes.{IsCaused, IsRoomFault};
 ghost use Rattle.link_graph.specs.Heads.{heads_of};
 ghost use Rattle.link_graph.specs.Held.{answer_of, arrived_of};
 ghost use Rattle.link_graph.specs.Holds.{text_named};
+ghost use Rattle.link_graph.specs.Parentage.{parents_in};
 ghost use Rattle.link_graph.specs.Positions.{at_places};
 ghost use Rattle.link_graph.specs.Taking.{Answers, HasSpace, HasText, IsFresh};
 ghost use Rattle.link_graph.specs.Webs.{without_last};
 
 use crate::connected::link_of;
 use crate::measuring::{frame_length, header_length};
+use crate::parentage::put_with_parents;
 use crate::take_fault::TakeFault;
 use crate::taking::has_text;
 use crate::took::Took;
 use crate::web::Web;
+use ancestry::Ancestry;
 use link_text::{name_of, read_named_of_team};
 use std::alloc::Global;
 use std::marker::Model;
@@ -32,6 +36,7 @@ pub struct Graph {
     alloc: Global,
     team: LinkName,
     web: Web,
+    ancestry: Ancestry,
     bytes: u64,
 }
 
@@ -43,7 +48,7 @@ impl Model for Graph {
 
     ghost view = { λ it. record { team = it.team; links = it.web.holding } };
 
-    ghost invariant = { λ it. IsGraph it.team it.web it.bytes };
+    ghost invariant = { λ it. IsGraph it.team it.web it.ancestry it.bytes };
 }
 
 impl Graph {
@@ -55,6 +60,7 @@ impl Graph {
             alloc,
             team,
             web: Web::new(alloc),
+            ancestry: Ancestry::new(alloc),
             bytes: header_length(&team),
         }
     }
@@ -157,6 +163,21 @@ impl Graph {
         self.web.lineup.order.as_slice()
     }
 
+    /// Which positions are before which: the link of one is an ancestor of the link of the other.
+    pub fn ancestry(&self) -> &Ancestry
+        ensures { result.now ≡ parents_in (arrived_of self.now.links) }
+    {
+        &self.ancestry
+    }
+
+    /// The height of the link of a position: one more than the greatest height of a parent, and 0 without parents.
+    pub fn height(&self, position: u32) -> u32
+        requires given { position < length (arrived_of self.now.links) }
+        ensures { IfSome (slice_get (arrived_of self.now.links) position) (λ x. result ≡ height name_of prev_of self.now.links x) }
+    {
+        self.ancestry.height(position)
+    }
+
     /// The names of those connected links that are no connected link's parent, in ascending order.
     pub fn heads(&self) -> &[LinkName]
         ensures { result.now ≡ heads_of self.now.links }
@@ -211,7 +232,7 @@ impl Graph {
         ensures answer { IfOk result (λ took. took ≡ answer_of self.old.links (self.old.links ++ link ∷ [])) }
         ensures err { OnErr result (self.new ≡ self.old) }
     {
-        let took = self.web.put(self.alloc, bytes, link)?;
+        let took = put_with_parents(self.alloc, &mut self.web, &mut self.ancestry, bytes, link)?;
         self.bytes += frame_length(bytes.len());
         Ok(took)
     }
@@ -245,5 +266,6 @@ impl Graph {
         let frame = frame_length(self.web.holding.last_len());
         self.bytes -= frame;
         self.web.take_out(connected as usize);
+        self.ancestry.truncate(connected as usize);
     }
 }

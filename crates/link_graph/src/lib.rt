@@ -6,7 +6,7 @@
 //!
 //! The parts stand in modules of their own, each with a contract over lists: `holding` has texts and links by name, `children` the
 //! links that name a parent, `connected` the positions, `ready` and `connecting` let links connect, `ordering`, `heads` and `lineup`
-//! keep order and heads, `web` puts a link in and takes it out.
+//! keep order and heads, `web` puts a link in and takes it out, `parentage` keeps the ancestry of positions.
 #![tactic(auto)]
 
 mod children;
@@ -20,6 +20,7 @@ mod laws;
 mod lineup;
 mod measuring;
 mod ordering;
+mod parentage;
 mod ready;
 mod take_fault;
 mod taking;
@@ -27,6 +28,6 @@ mod took;
 mod web;
 
 pub use graph::Graph;
-pub use laws::waits_where_unconnected;
+pub use laws::{positions_stand_as_links, waits_where_unconnected};
 pub use take_fault::TakeFault;
 pub use took::Took;

@@ -1,5 +1,5 @@
 use Rattle.std.proofs.Common.{◌∙◌}
-use Rattle.link_graph.proofs.Names.{has_name-any}
+use Rattle.team_sets.proofs.Lists.{has_name-any}
 use Rattle.link_graph.proofs.ordering.has_name.Goals as goal
 
 pub returns : goal.returns

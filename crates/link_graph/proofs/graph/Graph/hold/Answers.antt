@@ -10,12 +10,13 @@ use Rattle.link_graph.specs.Held.{Held}
 use Rattle.link_graph.proofs.Facts.{size_more, valid_push}
 use Rattle.link_graph.proofs.graph.Graph.hold.Goals as goal
 
-pub put-requires : goal.put-requires
-put-requires c = record {
+pub put_with_parents-requires : goal.put_with_parents-requires
+put_with_parents-requires c = record {
   few = subst (λ (h : Held). length h.links < most_links) (sym c.self.view_is) c.requires.space.few;
   text = c.requires.valid.reads.is_text;
   fresh = subst (λ (h : Held). has_name (names name_of h.links) c.args.link.name ≡ false) (sym c.self.view_is) c.requires.fresh;
   web = c.self.invariant.fits;
+  parents = c.self.invariant.parents;
 }
 
 pub invariant_of-self-2 : goal.invariant_of-self-2
@@ -31,5 +32,6 @@ invariant_of-self-2 c =
       valid = rw c.in_ok-took.ensures.ok (valid_push c.self.inside.team c.self.inside.web.holding c.args.link c.self.invariant.valid (subst (λ b. IsValid c.self.inside.team b c.args.link) is here));
       size = size ∙ ap (λ (l : List Link). length (file_text c.self.inside.team l)) (sym c.in_ok-took.ensures.ok);
       short = subst (λ n. n ≤ most_file_bytes) (sym size) fits;
-      fits = c.put.ensures.web;
+      fits = c.put_with_parents.ensures.web;
+      parents = c.put_with_parents.ensures.parents;
     }

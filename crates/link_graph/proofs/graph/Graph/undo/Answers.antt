@@ -1,6 +1,7 @@
-use Rattle.std.proofs.Common.{ap, arith, List, length}
+use Rattle.std.proofs.Common.{◌∙◌, ap, arith, List, length}
 use Rattle.team_model.specs.declared.terms.Link.{Link}
 use Rattle.link_text.specs.TeamFile.{file_text}
+use Rattle.link_graph.proofs.Ancestries.{cut-parents}
 use Rattle.link_graph.proofs.Facts.{last_short, last_size, others_valid}
 use Rattle.link_graph.proofs.graph.Graph.undo.Goals as goal
 
@@ -27,4 +28,7 @@ invariant_of-self c =
       size = let same = ap (λ (l : List Link). length (file_text c.self.inside.team l)) c.take_out.ensures.held in omega (arith, size, is, frame, same);
       short = omega (arith, short);
       fits = c.take_out.ensures.web;
+      parents = c.truncate.ensures
+          ∙ cut-parents c.self.inside.web.holding c.take_out.new.self.holding c.args.connected c.self.inside.ancestry (rw (← c.self.view_is) at c.requires.held)
+          (rw (← c.self.view_is) at c.requires.connected) c.self.invariant.parents c.take_out.ensures.held;
     }
