@@ -3,7 +3,7 @@ use Rattle.std.proofs.Common.{◌≡◌, ℕ, zero, suc, ◌<◌, ◌≤◌, Boo
 use Rattle.std.specs.List.{list_all, IsDistinct}
 use Rattle.std.specs.Cmp.Lexicographic.{bytes_decides}
 use Rattle.std.proofs.lemmas.Bool.{false≢true, and_parts}
-use Rattle.team_sets.specs.Names.{Name, has_name}
+use Rattle.team_sets.specs.Names.{has_name}
 use Rattle.team_sets.specs.Members.{IsIn}
 use Rattle.team_sets.specs.Order.{names}
 use Rattle.team_sets.specs.OrderLaws.{IsSet, NamesDiffer, ParentsFirst}

@@ -1,5 +1,5 @@
 -- Links with their pasts: closed under parents, and all given before the links that come after the ones named.
-use Rattle.std.proofs.Common.{◌≡◌, ◌⊎◌, ℕ, ◌<◌, ◌≤◌, Bool, true, false, ◌||◌, List, Some, refl, sym, ◌∙◌, ap, subst, inl, inr, length, take, drop, slice_get, arith}
+use Rattle.std.proofs.Common.{◌≡◌, ◌⊎◌, ℕ, ◌<◌, ◌≤◌, Bool, true, false, List, Some, refl, sym, ◌∙◌, ap, subst, inl, inr, length, take, drop, slice_get, arith}
 use Rattle.std.specs.List.{list_any}
 use Rattle.std.proofs.lemmas.Bool.{false≢true, or_cases, or_left, or_right}
 use Rattle.team_sets.specs.Names.{Name, has_name}
@@ -9,7 +9,8 @@ use Rattle.team_sets.specs.Ancestry.{is_before, named}
 use Rattle.team_sets.specs.OrderLaws.{IsSet}
 use Rattle.team_sets.specs.PartLaws.{HasParents}
 use Rattle.team_sets.proofs.Agree.{any_in}
-use Rattle.team_sets.proofs.Ancestors.{filter_alike, in_at, in_links, in_take, transitive, unrolled}
+use Rattle.team_sets.proofs.Ancestors.{in_at, in_links, in_take, transitive, unrolled}
+use Rattle.team_sets.proofs.Lists.{filter_alike}
 use Rattle.team_sets.proofs.OrderLeast.{in_filter, of_filter}
 use Rattle.team_sets.proofs.Pasts.{all_names, any_of, one_named, reached_connected}
 use Rattle.team_model.specs.Judging.{name_of, prev_of, order_of, past_of}
@@ -17,7 +18,7 @@ use Rattle.team_model.specs.declared.terms.Link.{Link}
 use Rattle.link_graph.specs.Held.{arrived_of}
 use Rattle.replica.specs.Below.{is_below, with_pasts}
 use Rattle.replica.specs.Judged.{AreGiven}
-use Rattle.replica.proofs.Arrived.{ancestor_at, at_order, differ, of_back, of_front, one_place, ordered, to_links, to_order}
+use Rattle.replica.proofs.Arrived.{ancestor_at, at_order, differ, of_back, of_front, one_place, ordered, to_links}
 
 module _ (links : List Link) (set : IsSet name_of links) where
   -- the parents of a connected link, with their pasts, are its past

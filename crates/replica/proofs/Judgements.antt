@@ -1,10 +1,8 @@
 -- Judgements stay when a link comes, and the next one is found in the team of what is judged already.
-use Rattle.std.proofs.Common.{◌≡◌, ℕ, zero, suc, ◌+◌, ◌-◌, ◌<◌, ◌≤◌, Bool, true, false, ◌&&◌, cond, List, [], ◌∷◌, ◌++◌, Option, Some, None, is_none, refl, sym, ◌∙◌, ap, subst, inl, inr, length, take, drop, map, filter, get_or, slice_get, add-one, arith}
+use Rattle.std.proofs.Common.{◌≡◌, ℕ, zero, suc, ◌+◌, ◌<◌, ◌≤◌, false, List, [], ◌∷◌, ◌++◌, Option, Some, None, is_none, refl, sym, ◌∙◌, ap, subst, length, take, map, slice_get, add-one, arith}
 use Rattle.std.specs.Option.{option_map_or}
 use Rattle.std.proofs.lemmas.List.{length-map, length_push, map-append, take_all}
-use Rattle.team_sets.specs.Names.{Name, has_name}
-use Rattle.team_sets.specs.Members.{IsIn}
-use Rattle.team_sets.specs.Order.{names, order_after}
+use Rattle.team_sets.specs.Order.{order_after}
 use Rattle.team_sets.specs.OrderLaws.{IsSet}
 use Rattle.team_sets.proofs.Arrivals.{arrived_extends}
 use Rattle.team_sets.proofs.Stays.{past-stays}

@@ -6,20 +6,20 @@ use Rattle.std.proofs.lemmas.Bool.{false≢true, or_cases, or_left, or_right}
 use Rattle.std.proofs.lemmas.List.Sums.{fails_before_first}
 use Rattle.std.proofs.lemmas.List.{drop_all, ext_get_or, get_or-set_other, get_or-set_same, length-map, take_all}
 use Rattle.team_sets.specs.Names.{Name, same_name, has_name}
-use Rattle.team_sets.specs.Members.{IsIn}
 use Rattle.team_sets.specs.Order.{names}
 use Rattle.team_sets.specs.Ancestry.{is_before, is_before_within, named}
 use Rattle.team_sets.specs.OrderLaws.{IsSet}
-use Rattle.team_sets.proofs.Agree.{any_in, same_answer}
+use Rattle.team_sets.proofs.Agree.{same_answer}
 use Rattle.team_sets.proofs.OrderLeast.{of_filter}
 use Rattle.team_sets.proofs.Pasts.{any_of, same_name-is}
 use Rattle.team_model.specs.Judging.{name_of, prev_of}
 use Rattle.team_model.specs.declared.terms.Link.{Link}
 use Rattle.link_graph.specs.Held.{arrived_of}
-use Rattle.link_graph.proofs.Names.{get_at, get_within, place_named, some_at}
+use Rattle.link_graph.proofs.Names.{get_at, get_within, place_named}
+use Rattle.team_sets.proofs.Lists.{some_at}
 use Rattle.replica.specs.Below.{is_below}
 use Rattle.replica.specs.Judged.{AreGiven, AreMarked}
-use Rattle.replica.proofs.Arrived.{at_links, index_in, not_parent, one_place, ordered, parent_at}
+use Rattle.replica.proofs.Arrived.{at_links, not_parent, one_place, ordered, parent_at}
 use Rattle.replica.proofs.Belows.{below_parent, head_given}
 use Rattle.replica.proofs.Picks.{take_next}
 

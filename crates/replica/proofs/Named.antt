@@ -1,10 +1,10 @@
 -- Links by their names: what became of a held link, and names of connected links.
-use Rattle.std.proofs.Common.{◌≡◌, ℕ, ◌<◌, ◌≤◌, Bool, true, false, ◌&&◌, cond, List, [], ◌∷◌, Option, Some, None, refl, sym, ◌∙◌, ap, inl, inr, length, take, map, find, option_map, position, get_or, slice_get, arith}
+use Rattle.std.proofs.Common.{◌≡◌, ℕ, Bool, true, false, cond, List, [], ◌∷◌, Some, None, refl, sym, ◌∙◌, ap, inl, inr, length, take, map, find, option_map, position, get_or, arith}
 use Rattle.std.specs.List.{list_all}
 use Rattle.std.specs.Option.{option_map_or}
 use Rattle.std.specs.Cmp.Lexicographic.{bytes_decides}
 use Rattle.std.proofs.lemmas.Bool.{false≢true, and_from, and_parts, or_parts}
-use Rattle.std.proofs.lemmas.List.{length-map, take_all}
+use Rattle.std.proofs.lemmas.List.{take_all}
 use Rattle.team_sets.specs.Names.{Name, same_name, has_name}
 use Rattle.team_sets.specs.Members.{IsIn}
 use Rattle.team_sets.specs.Order.{names}
@@ -17,11 +17,12 @@ use Rattle.team_model.specs.declared.terms.Link.{Link}
 use Rattle.team_model.specs.declared.terms.Verdict.{Verdict}
 use Rattle.team_model.specs.declared.terms.Verdict.TheVariants.{Unlawful, Waiting}
 use Rattle.link_graph.specs.Held.{arrived_of}
-use Rattle.link_graph.proofs.Names.{place_named, same_flip}
+use Rattle.link_graph.proofs.Names.{place_named}
+use Rattle.team_sets.proofs.Lists.{same_flip}
 use Rattle.replica.specs.Below.{AreConnected}
 use Rattle.replica.specs.Judged.{AreGiven}
 use Rattle.replica.specs.Views.{verdict_named}
-use Rattle.replica.proofs.Arrived.{differ, index_in, ordered, place_of_order, to_links}
+use Rattle.replica.proofs.Arrived.{differ, place_of_order, to_links}
 use Rattle.replica.proofs.Marks.{link_named, map_at, named_at, not_there}
 
 all_names_weaker : (p q : Name → Bool) (ns : List Name) → ((n : Name) → p n ≡ true → q n ≡ true) → list_all p ns ≡ true → list_all q ns ≡ true

@@ -1,58 +1,26 @@
--- A part of a set that has the parents of each of its links: its lawful links are those of the set; and where no link strikes, all of
--- them are resolved.
-use Rattle.std.proofs.Common.{◌≡◌, ◌⊎◌, ℕ, zero, suc, Bool, true, false, not, ◌&&◌, ◌||◌, cond, List, [], ◌∷◌, Option, None, is_none, refl, sym, ◌∙◌, ap, subst, inl, inr, length, filter, find, map, ◌≤◌, arith}
-use Rattle.std.specs.List.{list_any}
+-- A part of a set that has the parents of each of its links: its lawful links are those of the set, and settlement of them is as in the
+-- whole set.
+use Rattle.std.proofs.Common.{◌≡◌, ◌⊎◌, ℕ, zero, suc, Bool, true, not, ◌&&◌, List, is_none, sym, ◌∙◌, ap, subst, inl, inr, length, filter, ◌≤◌, arith}
+use Rattle.std.specs.List.{list_any, AllByRecursion}
 use Rattle.std.proofs.lemmas.Bool.{false≢true, or_cases}
-use Rattle.team_sets.specs.Names.{Name, has_name}
+use Rattle.team_sets.specs.Names.{Name, same_name, has_name}
 use Rattle.team_sets.specs.Members.{IsIn}
 use Rattle.team_sets.specs.Ancestry.{is_before, is_before_within, named}
 use Rattle.team_sets.specs.OrderLaws.{NamesDiffer}
 use Rattle.team_sets.specs.PartLaws.{HasParents}
-use Rattle.team_sets.specs.Settlement.{standing}
+use Rattle.team_sets.specs.WaitingLaws.{HaveSameConnected}
 use Rattle.team_sets.proofs.Agree.{same_ancestors}
-use Rattle.team_sets.proofs.Ancestors.{all_of, filter_alike, filter_filter, in_links, order-le}
+use Rattle.team_sets.proofs.Ancestors.{all_of, filter_filter, in_links, order_first, order-le}
+use Rattle.team_sets.proofs.Lists.{filter_alike}
+use Rattle.team_sets.proofs.Heights.{same_heights}
 use Rattle.team_sets.proofs.OrderLeast.{length-filter-le, of_filter, order_laws}
 use Rattle.team_sets.proofs.Parts.{order-part}
 use Rattle.team_sets.proofs.Pasts.{all_at, any_of}
-use Rattle.team_model.specs.Strikes.{is_striking}
-use Rattle.team_model.specs.Judging.{Rules, name_of, prev_of, order_of, past_of, is_senior, strikers, standing_strikers, stays, strikes_among, resolved_from, first_striker, fold_team, team, lawful, resolved, unlawful_reason}
+use Rattle.team_model.specs.Judging.{Rules, name_of, prev_of, order_of, past_of, resolved_from, fold_team, team, lawful, resolved, unlawful_reason}
 use Rattle.team_model.specs.declared.terms.Link.{Link}
 use Rattle.team_model.proofs.PastTeams.{filter_comm}
 use Rattle.team_model.proofs.Teams.{team_is_fold}
-
--- none of the links strikes
-abbrev pub Calm : List Link → Type 0
-Calm kept = (x : Link) → IsIn x kept → is_striking x.entry.act ≡ false
-
-pub calm_part : (p : Link → Bool) (kept : List Link) → Calm kept → Calm (filter p kept)
-calm_part p kept calm x k = calm x (of_filter p x kept k).0
-
-module _ (rules : Rules) (links : List Link) where
-  no_strikers : (kept : List Link) → Calm kept → strikers links kept ≡ []
-  no_strikers [] calm = refl
-  no_strikers (x ∷ xs) calm = ap (λ b. cond b (x ∷ strikers links xs) (strikers links xs)) (calm x (inl refl)) ∙ no_strikers xs (λ y k. calm y (inr k))
-
-  pub none_standing : (kept : List Link) → Calm kept → standing_strikers rules links kept ≡ []
-  none_standing kept calm = ap (λ l. standing (is_senior links kept) (strikes_among rules.device_of links) l) (no_strikers kept calm)
-
-  all_stay : (kept xs : List Link) → Calm xs → filter (stays rules links kept []) xs ≡ xs
-  all_stay kept [] calm = refl
-  all_stay kept (x ∷ xs) calm =
-      ap (λ b. cond ((not b || false) && true) (x ∷ filter (stays rules links kept []) xs) (filter (stays rules links kept []) xs)) (calm x (inl refl))
-      ∙ ap (λ l. x ∷ l) (all_stay kept xs (λ y k. calm y (inr k)))
-
-  -- each of the lawful links stays
-  pub none_struck : (kept : List Link) → Calm kept → resolved_from rules links kept ≡ kept
-  none_struck kept calm = ap (λ l. filter (stays rules links kept l) kept) (none_standing kept calm) ∙ all_stay kept kept calm
-
-  none_found : (x : Link) (xs : List Link) → find (λ s. false && strikes_among rules.device_of links s x) xs ≡ None
-  none_found x [] = refl
-  none_found x (y ∷ ys) = none_found x ys
-
-  -- and none is struck
-  pub no_striker : (kept : List Link) → Calm kept → (x : Link) → first_striker rules links kept x ≡ None
-  no_striker kept calm x =
-      ap (λ l. find (λ s. has_name (map name_of l) s.name && strikes_among rules.device_of links s x) kept) (none_standing kept calm) ∙ none_found x kept
+use Rattle.replica.proofs.Alike.{resolved-alike}
 
 module _ (rules : Rules) (links : List Link) (differ : NamesDiffer name_of links) (part : Link → Bool) (closed : HasParents name_of prev_of links part) where
   -- what is before a link of the part is of the part
@@ -75,9 +43,28 @@ module _ (rules : Rules) (links : List Link) (differ : NamesDiffer name_of links
   pub part_order : order_of (filter part links) ≡ filter part (order_of links)
   part_order = order-part name_of prev_of links part differ closed
 
-  part_past : (y : Link) → IsIn y (order_of (filter part links)) → past_of (filter part links) y ≡ past_of links y
+  of_part : AllByRecursion (λ x. IsIn x (filter part links)) (order_of (filter part links))
+  of_part = (order_laws name_of prev_of (filter part links) part_differ).0.of_links
+
+  of_whole : AllByRecursion (λ x. IsIn x links) (order_of (filter part links))
+  of_whole =
+      all_of (λ z. IsIn z links) (order_of (filter part links))
+      (λ z i. (of_filter part z links (all_at (λ w. IsIn w (filter part links)) (order_of (filter part links)) of_part z i)).0)
+
+  within : length (order_of (filter part links)) ≤ length (filter part links)
+  within = order-le name_of prev_of (filter part links)
+
+  fewer : length (filter part links) ≤ length links
+  fewer = length-filter-le name_of prev_of links part links
+
+  part_ancestors : (y : Link) → IsIn y (order_of (filter part links)) → (a : Name) → is_before name_of prev_of (filter part links) a y ≡ is_before name_of prev_of links a y
+  part_ancestors y j a =
+      same_ancestors name_of prev_of (filter part links) links part_differ differ (order_of (filter part links)) of_part of_whole (order_first name_of prev_of (filter part links) part_differ)
+      y j (length (filter part links)) (length links) a within (omega (arith, within, fewer))
+
+  pub part_past : (y : Link) → IsIn y (order_of (filter part links)) → past_of (filter part links) y ≡ past_of links y
   part_past y j =
-      filter_alike (λ z. is_before name_of prev_of (filter part links) z.name y) (λ z. is_before name_of prev_of links z.name y) (filter part links) (λ z i. same z.name)
+      filter_alike (λ z. is_before name_of prev_of (filter part links) z.name y) (λ z. is_before name_of prev_of links z.name y) (filter part links) (λ z i. part_ancestors y j z.name)
       ∙ filter_filter part (λ z. is_before name_of prev_of links z.name y) links (λ z e i. closed_back (length links) y z in_set.0 in_set.1 i e)
     where
       in_order : IsIn y (order_of links) × (part y ≡ true)
@@ -86,14 +73,18 @@ module _ (rules : Rules) (links : List Link) (differ : NamesDiffer name_of links
       in_set : IsIn y links × (part y ≡ true)
       in_set = (in_links name_of prev_of links differ y in_order.0, in_order.1)
 
-      same : (a : Name) → is_before name_of prev_of (filter part links) a y ≡ is_before name_of prev_of links a y
-      same a =
-          let arr = (order_laws name_of prev_of (filter part links) part_differ).0 in
-          let within : length (order_of (filter part links)) ≤ length (filter part links) = order-le name_of prev_of (filter part links) in
-          let fewer : length (filter part links) ≤ length links = length-filter-le name_of prev_of links part links in
-          same_ancestors name_of prev_of (filter part links) links part_differ differ (order_of (filter part links)) arr.of_links
-          (all_of (λ z. IsIn z links) (order_of (filter part links)) (λ z i. (of_filter part z links (all_at (λ w. IsIn w (filter part links)) (order_of (filter part links)) arr.of_links z i)).0))
-          arr.parents_first y j (length (filter part links)) (length links) a (omega arith) (omega arith)
+  -- the part and the whole say the same of the links of the part
+  pub part_connected : HaveSameConnected name_of prev_of (filter part links) links
+  part_connected = record {
+    ancestors = part_ancestors;
+    pasts = λ x k. ap (λ l. order_of l) (part_past x k);
+    heights = λ x k.
+        same_heights name_of prev_of (filter part links) links part_differ differ (order_of (filter part links)) of_part of_whole (order_first name_of prev_of (filter part links) part_differ)
+        x k (length (filter part links)) (length links) within (omega (arith, within, fewer));
+    concurrent = λ x y k j.
+        ap (λ b. not (same_name x.name y.name) && not b && not (is_before name_of prev_of (filter part links) y.name x)) (part_ancestors y j x.name)
+        ∙ ap (λ b. not (same_name x.name y.name) && not (is_before name_of prev_of links x.name y) && not b) (part_ancestors x k y.name);
+  }
 
   pub lawful_part : lawful rules (filter part links) ≡ filter part (lawful rules links)
   lawful_part =
@@ -102,10 +93,16 @@ module _ (rules : Rules) (links : List Link) (differ : NamesDiffer name_of links
       ∙ ap (λ l. filter (λ y. is_none (unlawful_reason rules links y)) l) part_order
       ∙ filter_comm (λ y. is_none (unlawful_reason rules links y)) part (order_of links)
 
-  -- where none strikes, they are resolved
-  pub resolved_part : Calm (lawful rules links) → resolved rules (filter part links) ≡ filter part (lawful rules links)
-  resolved_part calm =
-      ap (λ l. resolved_from rules (filter part links) l) lawful_part ∙ none_struck rules (filter part links) (filter part (lawful rules links)) (calm_part part (lawful rules links) calm)
+  -- a lawful link of the part is connected in it
+  pub of_lawful_part : (x : Link) → IsIn x (filter part (lawful rules links)) → IsIn x (order_of (filter part links))
+  of_lawful_part x k =
+      (of_filter (λ y. is_none (unlawful_reason rules (filter part links) y)) x (order_of (filter part links)) (subst (λ l. IsIn x l) (sym lawful_part) k)).0
 
-  pub team_part : Calm (lawful rules links) → team rules (filter part links) ≡ fold_team rules (filter part (lawful rules links))
-  team_part calm = team_is_fold rules (filter part links) part_differ ∙ ap (λ l. fold_team rules l) (resolved_part calm)
+  -- what is resolved of the part is what settlement in the whole set leaves of its lawful links
+  pub resolved_part : resolved rules (filter part links) ≡ resolved_from rules links (filter part (lawful rules links))
+  resolved_part =
+      ap (λ l. resolved_from rules (filter part links) l) lawful_part
+      ∙ resolved-alike rules (filter part links) links part_connected (filter part (lawful rules links)) of_lawful_part
+
+  pub team_part : team rules (filter part links) ≡ fold_team rules (resolved_from rules links (filter part (lawful rules links)))
+  team_part = team_is_fold rules (filter part links) part_differ ∙ ap (λ l. fold_team rules l) resolved_part

@@ -1,5 +1,5 @@
 -- The team of a past, as it is found: from the parents with their pasts, or from the one parent before it.
-use Rattle.std.proofs.Common.{◌≡◌, ◌-◌, ◌<◌, ◌≤◌, ℕ, Bool, true, cond, List, [], ◌∷◌, Option, Some, is_none, false, refl, sym, ◌∙◌, ap, length, map, filter, get_or, slice_get, arith}
+use Rattle.std.proofs.Common.{◌≡◌, ◌-◌, ◌<◌, ◌≤◌, ℕ, Bool, true, cond, List, [], ◌∷◌, Option, Some, sym, ◌∙◌, ap, length, map, filter, get_or, slice_get, arith}
 use Rattle.sha2.specs.Sha256.{sha256}
 use Rattle.team_sets.specs.Names.{Name, same_name}
 use Rattle.team_sets.specs.OrderLaws.{IsSet}
@@ -8,6 +8,7 @@ use Rattle.team_model.specs.ActTable.{after, effect_by}
 use Rattle.team_model.specs.Judging.{name_of, fold_team, past_of, resolved, team, team_rules}
 use Rattle.team_model.specs.State.{State}
 use Rattle.team_model.specs.declared.terms.Link.{Link}
+use Rattle.team_model.proofs.Brought.{team_brings_in}
 use Rattle.team_model.proofs.Teams.{team_is_fold}
 use Rattle.link_graph.specs.Held.{arrived_of}
 use Rattle.link_graph.specs.Positions.{at_places}
@@ -16,8 +17,7 @@ use Rattle.replica.specs.Judged.{AreGiven, ArePartOf, FollowsOne, IsPastOf}
 use Rattle.replica.proofs.Arrived.{at_order, differ}
 use Rattle.replica.proofs.Belows.{below_closed, below_early, past_below}
 use Rattle.replica.proofs.Follows.{RefusedStays, team_follows}
-use Rattle.replica.proofs.Parts.{Calm, part_differ}
-use Rattle.replica.proofs.Verdicts.{calm_lawful}
+use Rattle.replica.proofs.Parts.{part_differ}
 
 one_parent : (ns : List Name) (p : Name) → 1 ≤ length ns → length ns < 2 → p ≡ get_or ns 0 p → ns ≡ p ∷ []
 one_parent [] p some few e = absurd (omega arith)
@@ -46,12 +46,12 @@ module _ (links : List Link) (set_of : IsSet name_of links) where
       is ∙ ap (λ l. team team_rules l) (past_below links set_of x (at_order links set_of p x here)) ∙ ap (λ (w : Link). team team_rules (past_of links w)) same
 
   -- from the one parent
-  pub from_one : Calm links → (p : ℕ) (y : Link) (last new : State) → slice_get (arrived_of links) (p - 1) ≡ Some y → FollowsOne links p → IsPastOf links (p - 1) last → new ≡ after last y.entry
+  pub from_one : (p : ℕ) (y : Link) (last new : State) → slice_get (arrived_of links) (p - 1) ≡ Some y → FollowsOne links p → IsPastOf links (p - 1) last → new ≡ after last y.entry
       → IsPastOf links p new
-  from_one calm p y last new there follows before is x at =
+  from_one p y last new there follows before is x at =
       is ∙ ap (λ s. after s y.entry) (before y there)
       ∙ sym (team_follows links (differ links set_of) x y (at_order links set_of p x at) (at_order links set_of (p - 1) y there) (follows x y at there) team_rules refused_stays
-      (calm_lawful team_rules links set_of calm))
+      (team_brings_in sha256))
 
   -- the marks of links with their pasts are those of a part
   pub below_is_part : (n : ℕ) (heads : List Name) (marked : List Bool) → AreGiven links n heads → marked ≡ map (λ x. is_below links heads x.name) (arrived_of links)

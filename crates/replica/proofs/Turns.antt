@@ -1,8 +1,8 @@
 -- What becomes of the links of the resolved list, each at its turn.
-use Rattle.std.proofs.Common.{◌≡◌, ◌≢◌, ℕ, zero, suc, ◌<◌, Bool, true, false, cond, List, [], ◌∷◌, ◌++◌, append_assoc, append-nil, Option, Some, None, is_none, refl, sym, ◌∙◌, ap, subst, inl, inr, length, map, set, get_or, slice_get, take_while, not, fold, arith, one-add}
+use Rattle.std.proofs.Common.{◌≡◌, ◌≢◌, ℕ, ◌<◌, Bool, true, false, cond, List, [], ◌∷◌, Option, Some, None, refl, sym, ◌∙◌, ap, inl, inr, length, set, get_or, slice_get, take_while, not, fold, arith, one-add}
 use Rattle.std.specs.Option.{option_map_or}
 use Rattle.std.specs.List.{AllByRecursion, IsDistinct, cons_option}
-use Rattle.std.specs.Cmp.Lexicographic.{bytes_decides, nat_list_eq_equiv}
+use Rattle.std.specs.Cmp.Lexicographic.{bytes_decides}
 use Rattle.std.proofs.lemmas.Bool.{false≢true, or_parts}
 use Rattle.std.proofs.lemmas.List.{get_or-set_other, get_or-set_same, length-set}
 use Rattle.team_sets.specs.Names.{Name, same_name, has_name}
@@ -10,14 +10,15 @@ use Rattle.team_sets.specs.Members.{IsIn}
 use Rattle.team_sets.specs.Order.{names}
 use Rattle.team_sets.specs.OrderLaws.{IsSet}
 use Rattle.team_sets.proofs.Pasts.{same_name-is}
-use Rattle.team_model.specs.State.{State, empty_state}
-use Rattle.team_model.specs.Judging.{Rules, name_of, fold_team}
+use Rattle.team_model.specs.State.{State}
+use Rattle.team_model.specs.Judging.{Rules, name_of}
 use Rattle.team_model.specs.declared.terms.Link.{Link}
 use Rattle.team_model.specs.declared.terms.Reason.{Reason}
 use Rattle.team_model.specs.declared.terms.Verdict.{Verdict}
-use Rattle.team_model.specs.declared.terms.Verdict.TheVariants.{Counts, Refused}
+use Rattle.team_model.specs.declared.terms.Verdict.TheVariants.{Refused}
 use Rattle.link_graph.specs.Positions.{at_places}
-use Rattle.link_graph.proofs.Names.{get_within, same_flip}
+use Rattle.link_graph.proofs.Names.{get_within}
+use Rattle.team_sets.proofs.Lists.{same_flip}
 use Rattle.team_sets.proofs.Distinct.{apart}
 use Rattle.replica.specs.Judged.{noted, turned}
 use Rattle.replica.proofs.Arrived.{one_place}

@@ -1,20 +1,20 @@
 -- All links are a part of the set, and what is found of it makes the view.
-use Rattle.std.proofs.Common.{◌≡◌, ◌<◌, ◌≤◌, ℕ, zero, suc, Bool, true, List, [], ◌∷◌, All, Option, refl, sym, ◌∙◌, ap, length, map, filter, replicate, arith}
+use Rattle.std.proofs.Common.{◌≡◌, ◌<◌, ◌≤◌, ℕ, Bool, true, List, [], ◌∷◌, refl, sym, ◌∙◌, ap, subst, length, map, filter, replicate, arith}
 use Rattle.team_sets.specs.OrderLaws.{IsSet}
-use Rattle.team_model.specs.Judging.{name_of, fold_team, resolved, team, team_rules, verdict}
+use Rattle.team_model.specs.Judging.{name_of, fold_team, lawful, resolved, team_rules}
 use Rattle.team_model.specs.State.{State, empty_state}
 use Rattle.team_model.specs.declared.terms.Link.{Link}
-use Rattle.team_model.specs.declared.terms.Reason.{Reason}
 use Rattle.team_model.specs.declared.terms.Verdict.{Verdict}
 use Rattle.team_model.proofs.Teams.{team_is_fold}
 use Rattle.link_graph.specs.Held.{arrived_of}
 use Rattle.link_graph.specs.Positions.{at_places}
 use Rattle.link_graph.proofs.Names.{get_within}
-use Rattle.replica.specs.Judged.{ArePartOf, first_verdict, turned}
-use Rattle.replica.specs.Views.{IsViewOf, judgements}
-use Rattle.replica.specs.declared.view.View.{View}
+use Rattle.replica.specs.Judged.{ArePartOf, turned}
+use Rattle.replica.specs.Resolving.{IsResolved, first_verdict}
+use Rattle.replica.specs.Settling.{IsSettled}
+use Rattle.replica.specs.Views.{IsViewOf}
+use Rattle.replica.specs.declared.resolving.Resolved.{Resolved}
 use Rattle.replica.proofs.Arrived.{differ, of_back}
-use Rattle.replica.proofs.Parts.{Calm}
 use Rattle.replica.proofs.Verdicts.{verdicts_are}
 
 all_true : {A : Type 0} (xs : List A) → filter (λ x. true) xs ≡ xs
@@ -37,17 +37,22 @@ module _ (links : List Link) (set_of : IsSet name_of links) where
   }
 
   -- what is found of all links is their view
-  pub view_is : Calm links → (n : ℕ) (judged : List (Option Reason)) (flags : List Bool) (places : List ℕ) (s : State) (verdicts : List Verdict) → n ≡ length (arrived_of links)
-      → judged ≡ judgements links → flags ≡ replicate n true → All (λ p. p < length (arrived_of links)) places
-      → ((part : Link → Bool) → ArePartOf links n part flags → at_places (arrived_of links) places ≡ resolved team_rules (filter part links))
-      → s ≡ fold_team team_rules (at_places (arrived_of links) places) → verdicts ≡ turned team_rules (arrived_of links) empty_state places (map first_verdict judged)
-      → IsViewOf links (record { state = s; resolved = places; verdicts = verdicts })
-  view_is calm n judged flags places s verdicts whole is all given resolves folded turns =
-      let list : at_places (arrived_of links) places ≡ resolved team_rules links =
-      resolves (λ x. true) (whole_part n flags whole all) ∙ ap (λ l. resolved team_rules l) (all_true links) in
+  pub view_is : (n : ℕ) (flags : List Bool) (found : Resolved) (s : State) (verdicts : List Verdict) → n ≡ length (arrived_of links)
+      → flags ≡ replicate n true → IsResolved links n flags found → s ≡ fold_team team_rules (at_places (arrived_of links) found.positions.items)
+      → verdicts ≡ turned team_rules (arrived_of links) empty_state found.positions.items (map (first_verdict links) (arrived_of links))
+      → IsViewOf links (record { state = s; resolved = found.positions.items; verdicts = verdicts })
+  view_is n flags found s verdicts whole all is folded turns =
+      let list : at_places (arrived_of links) found.positions.items ≡ resolved team_rules links =
+      is.positions (λ x. true) (whole_part n flags whole all) ∙ ap (λ l. resolved team_rules l) (all_true links) in
       record {
         state = folded ∙ ap (λ l. fold_team team_rules l) list ∙ sym (team_is_fold team_rules links (differ links set_of));
-        given = given;
+        given = is.given;
         resolved = list;
-        verdicts = turns ∙ ap (λ l. turned team_rules (arrived_of links) empty_state places (map first_verdict l)) is ∙ verdicts_are team_rules links set_of calm places list;
+        verdicts = turns ∙ verdicts_are links set_of found.positions.items list;
       }
+
+  -- and so is what settlement decided of all
+  pub settled_is : (n : ℕ) (flags : List Bool) (found : Resolved) → n ≡ length (arrived_of links) → flags ≡ replicate n true → IsResolved links n flags found
+      → IsSettled links (lawful team_rules links) found.settled
+  settled_is n flags found whole all is =
+      subst (λ l. IsSettled links l found.settled) (all_true (lawful team_rules links)) (is.settled (λ x. true) (whole_part n flags whole all))

@@ -1,5 +1,5 @@
 -- What holds of each link of a held set that counts.
-use Rattle.std.specs.Prelude.{◌≡◌, true, ℕ, List}
+use Rattle.std.specs.Prelude.{◌≡◌, true, List}
 use Rattle.sha2.specs.Sha256.{sha256}
 use Rattle.team_sets.specs.Names.{Name}
 use Rattle.team_sets.specs.Members.{IsIn}

@@ -12,7 +12,7 @@ use Rattle.team_model.specs.State.{State}
 use Rattle.team_model.specs.declared.terms.Link.{Link}
 use Rattle.team_model.specs.declared.terms.Reason.{Reason}
 use Rattle.team_model.specs.declared.terms.Verdict.{Verdict}
-use Rattle.team_model.specs.declared.terms.Verdict.TheVariants.{Counts, Refused, Unlawful}
+use Rattle.team_model.specs.declared.terms.Verdict.TheVariants.{Refused}
 use Rattle.replica.specs.Views.{judgements}
 
 -- these are the judgements of the first positions
@@ -54,11 +54,6 @@ IsPastOf links p s = (x : Link) → slice_get (arrived_of links) p ≡ Some x �
 -- it is that of the past of the last of the first n positions, if it is there
 abbrev pub IsLast : List Link → ℕ → Option State → Type 0
 IsLast links n o = IfSome o (λ s. (0 < n) × IsPastOf links (n - 1) s)
-
--- what becomes of a link before its turn
-abbrev pub first_verdict : Option Reason → Verdict
-first_verdict None = Counts
-first_verdict (Some r) = Unlawful r
 
 -- what becomes of the link of a position at its turn
 abbrev pub noted : List Verdict → ℕ → Option Reason → List Verdict

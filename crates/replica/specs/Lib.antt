@@ -1,6 +1,9 @@
 pub mod Below
-pub mod Calm
 pub mod Counting
 pub mod Judged
 pub mod Kept
+pub mod Removals
+pub mod Resolving
+pub mod Settling
+pub mod Striking
 pub mod Views

@@ -8,8 +8,8 @@ use link_graph::Graph;
 use std::alloc::Global;
 use tg_text::{LinkName, Memory};
 
-// Marks the link of this name, if it is connected.
-fn mark_one(graph: &Graph, name: &LinkName, flags: &mut [bool])
+/// Marks the link of this name, if it is connected.
+pub(crate) fn mark_one(graph: &Graph, name: &LinkName, flags: &mut [bool])
     requires size { length flags.old ≡ length (arrived_of graph.now.links) }
     ensures size { length flags.new ≡ length flags.old }
     ensures marks { AreMarked graph.now.links (name.now ∷ []) flags.old flags.new }

@@ -1,14 +1,20 @@
 //! The team of links in their turn, and what becomes of each at its turn.
 ghost use Rattle.std.specs.Prelude.{◌≡◌, ◌<◌, All, IfOk, length, map};
-ghost use Rattle.team_model.specs.Judging.{fold_team, team, team_rules};
+ghost use Rattle.team_model.specs.Judging.{fold_team, lawful, team, team_rules};
 ghost use Rattle.team_model.specs.State.{empty_state};
 ghost use Rattle.link_graph.specs.Held.{arrived_of};
 ghost use Rattle.link_graph.specs.Positions.{at_places};
 ghost use Rattle.replica.specs.Below.{with_pasts};
-ghost use Rattle.replica.specs.Judged.{AreGiven, AreJudged, first_verdict, noted, turned};
+ghost use Rattle.replica.specs.Judged.{AreGiven, noted, turned};
+ghost use Rattle.replica.specs.Resolving.{first_verdict};
+ghost use Rattle.replica.specs.Settling.{IsSettled};
+ghost use Rattle.replica.specs.Striking.{IsJudged};
+ghost use Rattle.replica.specs.Views.{judgements};
 
+use crate::before_turns::first_verdicts;
 use crate::below::find_below;
-use crate::resolving::resolve;
+use crate::judged::Judged;
+use crate::resolving::{Resolved, resolve};
 use link_graph::Graph;
 use std::alloc::Global;
 use team_model::{Reason, Verdict};
@@ -45,33 +51,19 @@ fn fold_links<L: StepLedger>(
 pub(crate) fn team_below<L: StepLedger>(
     alloc: Global,
     graph: &Graph,
-    judged: &[Option<Reason>],
+    judged: &Judged,
     names: &[LinkName],
     steps: &mut Steps<L>,
 ) -> Result<TeamState, Memory>
-    requires judged { AreJudged graph.now.links judged.now }
-    requires given { AreGiven graph.now.links (length judged.now) names.now }
+    requires judged { IsJudged graph.now.links judged.now }
+    requires given { AreGiven graph.now.links (length judged.now.reasons.items) names.now }
     ensures { IfOk result (λ state. state ≡ team team_rules (with_pasts graph.now.links names.now)) }
 {
     // A law: it does nothing at run time.
     graph.is_held();
     let marked = find_below(alloc, graph, names)?;
     let resolved = resolve(alloc, graph, judged, &marked)?;
-    fold_links(alloc, graph, &resolved, steps)
-}
-
-// What becomes of the links before their turn.
-fn first_verdicts(alloc: Global, judged: &[Option<Reason>]) -> Result<Vec<Verdict>, Memory>
-    ensures { IfOk result (λ verdicts. verdicts.items ≡ map first_verdict judged.now) }
-{
-    let mut verdicts = Vec::new(alloc);
-    for unlawful in judged {
-        verdicts.push(match unlawful {
-            None => Verdict::Counts,
-            Some(reason) => Verdict::Unlawful(*reason),
-        })?;
-    }
-    Ok(verdicts)
+    fold_links(alloc, graph, &resolved.positions, steps)
 }
 
 fn note(verdicts: &mut [Verdict], position: u32, refused: Option<Reason>)
@@ -83,22 +75,24 @@ fn note(verdicts: &mut [Verdict], position: u32, refused: Option<Reason>)
     }
 }
 
-/// Lets the links of these positions have their turn, one after the other.
+/// Lets the links of the resolved list have their turn, one after the other.
 pub(crate) fn take_turns<L: StepLedger>(
     alloc: Global,
     graph: &Graph,
-    judged: &[Option<Reason>],
-    positions: &[u32],
+    judged: &Judged,
+    resolved: &Resolved,
     steps: &mut Steps<L>,
 ) -> Result<Turns, Memory>
-    requires given { All (λ p. p < length (arrived_of graph.now.links)) positions.now }
-    requires size { length judged.now ≡ length (arrived_of graph.now.links) }
-    ensures state { IfOk result (λ it. it.state ≡ fold_team team_rules (at_places (arrived_of graph.now.links) positions.now)) }
-    ensures verdicts { IfOk result (λ it. it.verdicts.items ≡ turned team_rules (arrived_of graph.now.links) empty_state positions.now (map first_verdict judged.now)) }
+    requires judged { judged.now.reasons.items ≡ judgements graph.now.links }
+    requires given { All (λ p. p < length (arrived_of graph.now.links)) resolved.now.positions.items }
+    requires settled { IsSettled graph.now.links (lawful team_rules graph.now.links) resolved.now.settled }
+    ensures state { IfOk result (λ it. it.state ≡ fold_team team_rules (at_places (arrived_of graph.now.links) resolved.now.positions.items)) }
+    ensures verdicts { IfOk result (λ it. it.verdicts.items ≡ turned team_rules (arrived_of graph.now.links) empty_state resolved.now.positions.items
+        (map (first_verdict graph.now.links) (arrived_of graph.now.links))) }
 {
     let mut state = TeamState::new(alloc)?;
-    let mut verdicts = first_verdicts(alloc, judged)?;
-    for &position in positions {
+    let mut verdicts = first_verdicts(alloc, graph, judged, &resolved.settled)?;
+    for &position in &resolved.positions {
         let refused = apply(alloc, &mut state, &graph.link_at(position).entry, steps)?;
         note(&mut verdicts, position, refused);
     }

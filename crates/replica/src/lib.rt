@@ -4,20 +4,25 @@
 //! links is, over the team, the resolved list and the verdicts of `team_model`. The calls of `Replica` cite both; the texts that are
 //! printed and the top call stand on them.
 //!
-//! `judging` finds which links are lawful, each once; `resolving` which of them stay, `folding` what comes of these in their turn, and
-//! `viewing` the view of it. `below` marks links with their ancestors.
+//! `judging` finds which links are lawful, and `striking` which of these strike which, each once. `settling` decides which strikers
+//! stand, and `resolving` which links stay; `folding` is what comes of these in their turn, `before_turns` what becomes of the others, and
+//! `viewing` the view of all. `below` marks links with their ancestors.
 #![tactic(auto)]
 
+mod before_turns;
 mod below;
 mod folding;
+mod judged;
 mod judging;
 mod laws;
 mod replica;
 mod resolving;
+mod settling;
+mod striking;
 mod view;
 mod viewing;
 
-pub use laws::{counting_links_are_right, held_links_strike_not};
+pub use laws::{counting_links_are_right, removals_are_right};
 pub use link_graph::{Graph, TakeFault, Took};
 pub use replica::Replica;
 pub use team_model::{Reason, Verdict};

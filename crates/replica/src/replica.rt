@@ -3,17 +3,18 @@ ghost use Rattle.link_graph.specs.Taking.{Answers};
 ghost use Rattle.link_graph.specs.Webs.{without_last};
 ghost use Rattle.team_model.specs.Judging.{team, team_rules};
 ghost use Rattle.replica.specs.Below.{AreConnected, with_pasts};
-ghost use Rattle.replica.specs.Kept.{IsKept};
-ghost use Rattle.replica.specs.Views.{IsViewOf, judgements, verdict_named};
+ghost use Rattle.replica.specs.Kept.{AreAllJudged, IsKept};
+ghost use Rattle.replica.specs.Views.{IsViewOf, verdict_named};
 
 use crate::folding::team_below;
-use crate::laws::counting_links_are_right;
+use crate::judged::Judged;
+use crate::laws::{counting_links_are_right, removals_are_right};
 use crate::view::View;
 use crate::viewing::{Kept, look};
 use link_graph::{Graph, TakeFault, Took};
 use std::alloc::Global;
 use std::marker::Model;
-use team_model::{Reason, Verdict};
+use team_model::Verdict;
 use team_state::TeamState;
 use tg_outside::{Silent, StepLedger, Steps};
 use tg_text::{LinkName, Memory};
@@ -40,11 +41,11 @@ impl Model for Replica {
 fn look_again<L: StepLedger>(
     alloc: Global,
     graph: &mut Graph,
-    known: &[Option<Reason>],
+    known: &Judged,
     steps: &mut Steps<L>,
 ) -> Result<Kept, Memory>
     requires held { 0 < length graph.old.links }
-    requires known { known.now ≡ judgements (without_last graph.old.links) }
+    requires known { AreAllJudged (without_last graph.old.links) known.now }
     ensures kept { IfOk result (λ kept. IsKept graph.new.links kept) }
     ensures ok { OnOk result (graph.new ≡ graph.old) }
     ensures err { OnErr result (graph.new ≡ record graph.old { links = without_last graph.old.links }) }
@@ -54,7 +55,7 @@ fn look_again<L: StepLedger>(
     match look(alloc, graph, known, steps) {
         Ok(kept) => Ok(kept),
         Err(memory) => {
-            graph.undo(known.len() as u32);
+            graph.undo(known.reasons.len() as u32);
             Err(memory)
         }
     }
@@ -79,10 +80,16 @@ impl Replica {
     pub fn with_graph(alloc: Global, graph: Graph) -> Result<Replica, Memory>
         ensures { IfOk result (λ it. it ≡ graph) }
     {
-        // A law: it does nothing at run time.
+        // Laws: they do nothing at run time.
         counting_links_are_right();
+        removals_are_right();
         let mut steps = Steps::new(Silent);
-        let kept = look(alloc, &graph, &[], &mut steps)?;
+        let none = Judged {
+            reasons: Vec::new(alloc),
+            strikers: Vec::new(alloc),
+            strikes: Vec::new(alloc),
+        };
+        let kept = look(alloc, &graph, &none, &mut steps)?;
         Ok(Replica { graph, kept })
     }
 

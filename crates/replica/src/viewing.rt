@@ -1,23 +1,22 @@
-ghost use Rattle.std.specs.Prelude.{◌≡◌, IfOk};
-ghost use Rattle.replica.specs.Judged.{AreJudged};
-ghost use Rattle.replica.specs.Kept.{IsKept};
-ghost use Rattle.replica.specs.Views.{IsViewOf, judgements};
+ghost use Rattle.std.specs.Prelude.{IfOk};
+ghost use Rattle.replica.specs.Kept.{AreAllJudged, IsKept};
+ghost use Rattle.replica.specs.Striking.{IsJudged};
+ghost use Rattle.replica.specs.Views.{IsViewOf};
 
 use crate::folding::take_turns;
+use crate::judged::Judged;
 use crate::judging::judge;
-use crate::laws::held_links_strike_not;
 use crate::resolving::resolve;
 use crate::view::View;
 use link_graph::Graph;
 use std::alloc::Global;
-use team_model::Reason;
 use tg_outside::{StepLedger, Steps};
 use tg_text::{Items, Memory};
 
-/// What is kept of the links of a graph: why each connected one is unlawful, if it is, and the view.
+/// What is kept of the links of a graph: what was found of each connected one, and the view.
 #[derive(Debug, Drop)]
 pub(crate) struct Kept {
-    pub(crate) judged: Vec<Option<Reason>>,
+    pub(crate) judged: Judged,
     pub(crate) view: View,
 }
 
@@ -25,21 +24,20 @@ pub(crate) struct Kept {
 fn view_of<L: StepLedger>(
     alloc: Global,
     graph: &Graph,
-    judged: &[Option<Reason>],
+    judged: &Judged,
     steps: &mut Steps<L>,
 ) -> Result<View, Memory>
-    requires { judged.now ≡ judgements graph.now.links }
+    requires { AreAllJudged graph.now.links judged.now }
     ensures { IfOk result (λ view. IsViewOf graph.now.links view) }
 {
-    // Laws: they do nothing at run time.
+    // A law: it does nothing at run time.
     graph.is_held();
-    held_links_strike_not();
-    let all = vec![in alloc; true; judged.len()]?;
+    let all = vec![in alloc; true; graph.connected() as usize]?;
     let resolved = resolve(alloc, graph, judged, &all)?;
     let turns = take_turns(alloc, graph, judged, &resolved, steps)?;
     Ok(View {
         state: turns.state,
-        resolved: Items::from_vec(resolved),
+        resolved: Items::from_vec(resolved.positions),
         verdicts: Items::from_vec(turns.verdicts),
     })
 }
@@ -48,10 +46,10 @@ fn view_of<L: StepLedger>(
 pub(crate) fn look<L: StepLedger>(
     alloc: Global,
     graph: &Graph,
-    known: &[Option<Reason>],
+    known: &Judged,
     steps: &mut Steps<L>,
 ) -> Result<Kept, Memory>
-    requires { AreJudged graph.now.links known.now }
+    requires { IsJudged graph.now.links known.now }
     ensures { IfOk result (λ kept. IsKept graph.now.links kept) }
 {
     let judged = judge(alloc, graph, known, steps)?;

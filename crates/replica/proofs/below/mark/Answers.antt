@@ -1,4 +1,4 @@
-use Rattle.std.proofs.Common.{◌≡◌, ◌||◌, ◌∙◌, ap, false, get_or, length, refl, take, arith}
+use Rattle.std.proofs.Common.{◌||◌, ◌∙◌, ap, false, get_or, length, refl, arith}
 use Rattle.std.proofs.lemmas.List.{take_all}
 use Rattle.std.proofs.lemmas.Option.{slice_get_read}
 use Rattle.team_sets.specs.Names.{has_name}

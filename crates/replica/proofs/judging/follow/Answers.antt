@@ -3,5 +3,5 @@ use Rattle.replica.proofs.judging.follow.Goals as goal
 
 pub returns : goal.returns
 returns g c =
-    from_one c.args.graph.now.links c.is_held.ensures.set (λ x k. c.held_links_strike_not.ensures c.args.graph.now.team c.args.graph.now.links c.is_held.ensures x k) c.args.position
+    from_one c.args.graph.now.links c.is_held.ensures.set c.args.position
     c.link_at.result.now c.args.last c.apply.new.state c.link_at.ensures c.requires.follows c.requires.last c.in_ok-apply.ensures.ok
