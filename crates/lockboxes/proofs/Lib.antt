@@ -1,1 +1,5 @@
 pub mod Contents
+pub mod Entitled
+pub mod InOrder
+pub mod Opens
+pub mod PlacesKept

@@ -5,6 +5,7 @@ ghost use Rattle.tg_text.specs.Spelling.{IsHash};
 ghost use Rattle.tg_text.specs.declared.keys.BoxLine.{BoxLine};
 ghost use Rattle.tg_text.specs.declared.keys.KeyId.{KeyId};
 ghost use Rattle.lockboxes.specs.Keeping.{Keeper, Opens};
+ghost use Rattle.lockboxes.specs.KeepingLaws.{OpenedAreEntitled};
 ghost use Rattle.lockboxes.specs.Symbolic.{symbolic_unseal};
 
 use crate::sealer::Sealer;
@@ -21,4 +22,9 @@ pub fn sealed_secrets_are_opened<K: Sealer>()
 /// A secret opens exactly the symbolic boxes that are its public key and 32 bytes behind it, and these are what it finds.
 pub fn symbolic_boxes_hold_their_secret()
     ensures { (bytes secret content : List ℕ) → (symbolic_unseal bytes secret ≡ Some content) ↔ ((length content ≡ 32) × (bytes ≡ sha256 secret ++ content)) }
+{}
+
+/// Each key that a device opens and that isn't tainted is its own, or is of a scope to which it is entitled.
+pub fn opened_are_entitled()
+    ensures { OpenedAreEntitled }
 {}

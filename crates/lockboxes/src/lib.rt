@@ -5,9 +5,14 @@
 #![tactic(auto)]
 
 mod laws;
+mod opened;
+mod opening;
+mod places;
 mod sealer;
 mod symbolic;
 
-pub use laws::{sealed_secrets_are_opened, symbolic_boxes_hold_their_secret};
+pub use laws::{opened_are_entitled, sealed_secrets_are_opened, symbolic_boxes_hold_their_secret};
+pub use opened::Opened;
+pub use opening::open_all;
 pub use sealer::Sealer;
 pub use symbolic::SymbolicKeeper;

@@ -1,0 +1,3 @@
+pub mod DebtLaws
+pub mod ReachLaws
+pub mod TaintLaws
