@@ -1,2 +1,5 @@
+mod GivenActs
+mod LinkNames
+pub mod OneCommand
 mod Titles
 mod WordCounts

@@ -1,10 +1,10 @@
 -- A word that was read as a title.
-use Rattle.std.proofs.Common.{◌≡◌, ◌↔◌, ◌&&◌, ℕ, Bool, true, false, cond, List, length, Option, Some, None, IsSome, IfSome, IsTrue, nat_le, refl, sym, ap, subst}
+use Rattle.std.proofs.Common.{◌≡◌, ◌↔◌, ◌&&◌, ℕ, Bool, true, false, cond, List, length, Option, Some, None, IsSome, IfSome, nat_le, refl, ap}
 use Rattle.std.specs.List.{list_all}
 use Rattle.std.specs.Str.{is_utf8}
 use Rattle.std.proofs.lemmas.Bool.{and_parts, false≢true, le-leb, leb-true}
 use Rattle.std.proofs.lemmas.Str.{IsUtf8-from_is_utf8, is_utf8-from_IsUtf8}
-use Rattle.tg_text.specs.Spelling.{IsTitle, is_printing, is_user_name}
+use Rattle.tg_text.specs.Spelling.{IsTitle, is_printing}
 use Rattle.team_words.specs.Words.{is_title}
 
 is_title-true : (w : List ℕ) → IsTitle w → is_title w ≡ true

@@ -1,8 +1,11 @@
-ghost use Rattle.std.specs.Prelude.{◌≡◌, ◌∷◌, ◌&&◌, [], cond, map, None, Some, IfOk, string_bytes};
-ghost use Rattle.team_words.specs.Words.{are_two_files, command_of, is_field, is_title, make_of, merge_of, newkey_of};
+ghost use Rattle.std.specs.Prelude.{◌≡◌, ◌∷◌, ◌&&◌, [], cond, map, Option, None, Some, IfOk, string_bytes};
+ghost use Rattle.team_words.specs.Words.{IsCommandOf, IsKeyedBy, are_two_files, command_with, hash_of, is_field, is_title, make_of, make_with, merge_of, newkey_of, plain_of, report_of, why_of};
 
+use crate::field::{are_fields, is_field};
+use crate::given::GivenAct;
+use crate::laws::words_are_one_command;
 use std::alloc::Global;
-use tg_text::{Memory, Title, UserName, Word};
+use tg_text::{LinkName, Memory, Title, UserName, Word, read_hex32};
 
 /// A command, with the words that it was given.
 #[derive(Debug, Drop)]
@@ -19,6 +22,12 @@ pub enum Command {
         key_file: Word,
         user: UserName,
     },
+    /// Writes a link of an act by a key, without key lines.
+    Plain {
+        file: Word,
+        key_file: Word,
+        act: GivenAct,
+    },
     /// Gives the links of a bundle to the team of a file.
     Merge {
         file: Word,
@@ -28,32 +37,128 @@ pub enum Command {
     Show {
         file: Word,
     },
+    /// Prints what became of each link in a file.
+    Log {
+        file: Word,
+    },
+    /// Prints the heads of the links in a file.
+    Heads {
+        file: Word,
+    },
+    /// Prints what is known of a link in a file.
+    Why {
+        file: Word,
+        name: LinkName,
+    },
 }
 
 /// The command that the words are, `None` where they are none.
 pub fn command_of(alloc: Global, words: &[String]) -> Result<Option<Command>, Memory>
-    ensures { IfOk result (λ found. found ≡ command_of (map string_bytes words.now)) }
+    ensures { IfOk result (λ found. IsCommandOf (map string_bytes words.now) found) }
 {
-    match words {
-        [word, file] => show_of(alloc, word.as_str(), file.as_str()),
-        [word, first, second] => { pair_of(alloc, word.as_str(), first.as_str(), second.as_str()) }
-        [word, file, key_file, user, title] if word.as_str() == "make" => make_of(
+    // A law: it does nothing at run time.
+    words_are_one_command();
+    if words.len() > 3 {
+        let (first, rest) = words.split_at(3);
+        return with_key(
             alloc,
-            file.as_str(),
-            key_file.as_str(),
-            user.as_str(),
-            title.as_str(),
-        ),
+            first[0].as_str(),
+            first[1].as_str(),
+            first[2].as_str(),
+            rest,
+        );
+    }
+    match words {
+        [word, file] => file_of(alloc, word.as_str(), file.as_str()),
+        [word, first, second] => { pair_of(alloc, word.as_str(), first.as_str(), second.as_str()) }
         _ => Ok(None),
     }
 }
 
-fn show_of(alloc: Global, word: &str, file: &str) -> Result<Option<Command>, Memory>
-    ensures { IfOk result (λ found. found ≡ command_of (word.now ∷ file.now ∷ [])) }
+// A command with a file, a key file, and further words.
+fn with_key(
+    alloc: Global,
+    word: &str,
+    file: &str,
+    key_file: &str,
+    rest: &[String],
+) -> Result<Option<Command>, Memory>
+    ensures { IfOk result (λ found. IsKeyedBy word.now file.now key_file.now (map string_bytes rest.now) found) }
 {
-    if word == "show" && is_field(file) {
+    if word == "plain" {
+        let act = GivenAct::read(alloc, rest)?;
+        return plain_of(alloc, file, key_file, rest, act);
+    }
+    if word == "make" {
+        return make_with(alloc, file, key_file, rest);
+    }
+    Ok(None)
+}
+
+fn plain_of(
+    alloc: Global,
+    file: &str,
+    key_file: &str,
+    words: &[String],
+    act: Option<GivenAct>,
+) -> Result<Option<Command>, Memory>
+    ensures { IfOk result (λ found. found ≡ plain_of file.now key_file.now (map string_bytes words.now) act) }
+{
+    if !(is_field(file) && is_field(key_file) && are_fields(words)) {
+        return Ok(None);
+    }
+    match act {
+        Some(act) => {
+            let file = Word::new(alloc, file)?;
+            let key_file = Word::new(alloc, key_file)?;
+            Ok(Some(Command::Plain {
+                file,
+                key_file,
+                act,
+            }))
+        }
+        None => Ok(None),
+    }
+}
+
+fn make_with(
+    alloc: Global,
+    file: &str,
+    key_file: &str,
+    words: &[String],
+) -> Result<Option<Command>, Memory>
+    ensures { IfOk result (λ found. found ≡ make_with file.now key_file.now (map string_bytes words.now)) }
+{
+    match words {
+        [user, title] => make_of(alloc, file, key_file, user.as_str(), title.as_str()),
+        _ => Ok(None),
+    }
+}
+
+// A command with a file alone.
+fn file_of(alloc: Global, word: &str, file: &str) -> Result<Option<Command>, Memory>
+    ensures { IfOk result (λ found. found ≡ command_with None (word.now ∷ file.now ∷ [])) }
+{
+    if is_field(file) {
+        return report_of(alloc, word, file);
+    }
+    Ok(None)
+}
+
+fn report_of(alloc: Global, word: &str, file: &str) -> Result<Option<Command>, Memory>
+    ensures { IfOk result (λ found. found ≡ report_of word.now file.now) }
+{
+    if word == "show" {
         let file = Word::new(alloc, file)?;
         return Ok(Some(Command::Show { file }));
+    }
+    if word == "log" {
+        let file = Word::new(alloc, file)?;
+        return Ok(Some(Command::Log { file }));
+    }
+    if word == "heads" {
+        let file = Word::new(alloc, file)?;
+        return Ok(Some(Command::Heads { file }));
     }
     Ok(None)
 }
@@ -113,13 +218,16 @@ fn read_title(bytes: &[u8]) -> Option<Title>
 
 // A command with two fields.
 fn pair_of(alloc: Global, word: &str, first: &str, second: &str) -> Result<Option<Command>, Memory>
-    ensures { IfOk result (λ found. found ≡ command_of (word.now ∷ first.now ∷ second.now ∷ [])) }
+    ensures { IfOk result (λ found. found ≡ command_with None (word.now ∷ first.now ∷ second.now ∷ [])) }
 {
     if word == "merge" {
         return merge_of(alloc, first, second);
     }
     if word == "newkey" {
         return newkey_of(alloc, first, second);
+    }
+    if word == "why" {
+        return why_of(alloc, first, second);
     }
     Ok(None)
 }
@@ -150,12 +258,27 @@ fn newkey_of(alloc: Global, key_file: &str, user: &str) -> Result<Option<Command
     }
 }
 
-// A word that may be given for a field.
-fn is_field(word: &str) -> bool
-    ensures { result ≡ is_field word.now }
+fn why_of(alloc: Global, file: &str, name: &str) -> Result<Option<Command>, Memory>
+    ensures { IfOk result (λ found. found ≡ why_of file.now name.now) }
 {
-    match word.as_bytes() {
-        [] => false,
-        [first, ..] => *first != b'-',
+    if !is_field(file) {
+        return Ok(None);
+    }
+    match name_of(name) {
+        Some(name) => {
+            let file = Word::new(alloc, file)?;
+            Ok(Some(Command::Why { file, name }))
+        }
+        None => Ok(None),
+    }
+}
+
+// The name of a link that a word spells.
+fn name_of(word: &str) -> Option<LinkName>
+    ensures { result ≡ hash_of word.now }
+{
+    match read_hex32(word.as_bytes()) {
+        Some(bytes) => Some(LinkName(bytes)),
+        None => None,
     }
 }
