@@ -1,0 +1,2 @@
+pub mod OfHeld
+pub mod Unheld

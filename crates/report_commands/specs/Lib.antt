@@ -1,1 +1,4 @@
+pub mod Heads
+pub mod Log
 pub mod Show
+pub mod Why

@@ -1,6 +1,5 @@
 -- The verdicts by position count the links that count.
-use Rattle.std.proofs.Common.{◌≡◌, Bool, true, false, suc, cond, List, [], ◌∷◌, refl, sym, ◌∙◌, ap, length, map, filter}
-use Rattle.team_sets.specs.Members.{IsIn}
+use Rattle.std.proofs.Common.{◌≡◌, Bool, true, false, suc, cond, List, [], ◌∷◌, refl, ◌∙◌, ap, length, map, filter}
 use Rattle.team_sets.specs.OrderLaws.{IsSet}
 use Rattle.team_sets.proofs.Ancestors.{order_first}
 use Rattle.team_sets.proofs.Arrivals.{arrived_ordered, first_set}

@@ -1,3 +1,7 @@
 pub mod Counted
+pub mod Explains
+pub mod LineSteps
 pub mod Places
+pub mod SameTexts
+pub mod Waits
 pub mod Writing

@@ -1,5 +1,5 @@
 -- The lines of what is shown, a kind at a time.
-use Rattle.std.specs.Prelude.{ℕ, List, [], ◌∷◌, ◌++◌, codes, filter, flat_map, Option}
+use Rattle.std.specs.Prelude.{ℕ, List, [], ◌∷◌, codes, filter, Option}
 use Rattle.std.specs.Option.{option_map_or}
 use Rattle.std.specs.List.{position_or_len}
 use Rattle.team_sets.specs.Names.{Name, ascending}
