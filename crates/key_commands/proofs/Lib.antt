@@ -1,6 +1,6 @@
-mod Foundings
-mod KnownKeys
+pub mod Foundings
+pub mod KnownKeys
 mod Left
-mod MadeBytes
-mod MadeTeams
+pub mod MadeBytes
+pub mod MadeTeams
 mod MadeTexts

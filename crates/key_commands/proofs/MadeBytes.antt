@@ -3,13 +3,13 @@ use Rattle.std.proofs.Common.{◌≡◌, ◌≤◌, ◌+◌, ◌/◌, ◌==◌, 
 use Rattle.std.specs.List.{AllByRecursion, concat}
 use Rattle.std.proofs.lemmas.Bool.{and_from, eq-eqb, le-leb}
 use Rattle.sha2.specs.Sha256.{sha256}
-use Rattle.tg_text.specs.Spelling.{AreBytes, IsPublicKey, is_public_key}
+use Rattle.tg_text.specs.Spelling.{AreBytes, IsPublicKey, is_public_key, number_at}
 use Rattle.lms_ots.specs.declared.kind.OtsKind.{OtsKind}
 use Rattle.lms_ots.specs.declared.kind.OtsKind.TheVariants.{W1, W2, W4, W8}
 use Rattle.lms_ots.specs.Kinds.{ots_row}
 use Rattle.lms_ots.specs.Digits.{coef, message_digits, u16str, u32str}
 use Rattle.lms_ots.specs.Chains.{chain, ots_secrets, randomizer, secret, secrets_from}
-use Rattle.lms_ots.specs.Ots.{number_at, ots_signature, starts}
+use Rattle.lms_ots.specs.Ots.{ots_signature, starts}
 use Rattle.lms_tree.specs.declared.lms_kind.LmsKind.{LmsKind}
 use Rattle.lms_tree.specs.declared.lms_kind.LmsKind.TheVariants.{H5, H10, H15, H20, H25}
 use Rattle.lms_tree.specs.declared.tree_key.TreeKey.{TreeKey}

@@ -86,26 +86,26 @@ module _ (user key seal title : List ℕ) (time : ℕ) (signature name : List �
   }
 
 -- how long a signature is at most
-few_nodes : (lms : LmsKind) → (lms_row lms).h ≤ 25
+pub few_nodes : (lms : LmsKind) → (lms_row lms).h ≤ 25
 few_nodes H5 = omega arith
 few_nodes H10 = omega arith
 few_nodes H15 = omega arith
 few_nodes H20 = omega arith
 few_nodes H25 = omega arith
 
-few_chains : (ots : OtsKind) → (ots_row ots).p ≤ 265
+pub few_chains : (ots : OtsKind) → (ots_row ots).p ≤ 265
 few_chains W1 = omega arith
 few_chains W2 = omega arith
 few_chains W4 = omega arith
 few_chains W8 = omega arith
 
-signature_short : (key : TreeKey) (q : ℕ) (message : List ℕ) → q < leaves_of key.lms → length (signature_of key q message) ≤ 9324
+pub signature_short : (key : TreeKey) (q : ℕ) (message : List ℕ) → q < leaves_of key.lms → length (signature_of key q message) ≤ 9324
 signature_short key q message low =
     let size : length (signature_of key q message) ≡ lms_length key.lms key.ots = (signature_parts key q message low).size in
     omega (arith, size, few_nodes key.lms, few_chains key.ots)
 
 -- a leaf that is left is one of the tree
-leaf_in_tree : (o : Option LmsKind) (n : ℕ) → n < option_map_or leaves_of o 0 → n < leaves_of (option_map_or (λ kind. kind) o H5)
+pub leaf_in_tree : (o : Option LmsKind) (n : ℕ) → n < option_map_or leaves_of o 0 → n < leaves_of (option_map_or (λ kind. kind) o H5)
 leaf_in_tree None n low = absurd (omega (arith, low))
 leaf_in_tree (Some kind) n low = low
 
