@@ -1,0 +1,5 @@
+pub mod Authoring
+pub mod Plain
+pub mod Refusals
+pub mod Signing
+pub mod Taken
