@@ -1,14 +1,8 @@
 -- The file of a team that a run founded.
-use Rattle.std.proofs.Common.{◌≡◌, ◌≢◌, ◌⊎◌, ◌∙◌, ◌&&◌, inl, inr, ℕ, zero, suc, Bool, true, false, cond, not, IsTrue, List, [], ◌∷◌, ◌++◌, Option, Some, None, length, codes, get_or, replicate, nat_eq, nat_le, refl, sym, ap, subst, append_assoc, arith}
+use Rattle.std.proofs.Common.{◌≡◌, ◌≢◌, ◌⊎◌, ◌∙◌, inl, inr, ℕ, zero, suc, IsTrue, List, [], ◌∷◌, ◌++◌, Some, None, get_or, replicate, refl, sym, ap, append_assoc, arith}
 use Rattle.std.specs.FinMap as fin
-use Rattle.std.specs.List.{AllByRecursion, list_all}
-use Rattle.std.specs.Str.{is_utf8}
-use Rattle.std.specs.Cmp.Lexicographic.{pointwise}
-use Rattle.std.proofs.lemmas.Bool.{and_parts, false≢true, leb-true}
-use Rattle.std.proofs.lemmas.Bool.Decides.{Decides-eqb}
-use Rattle.std.proofs.lemmas.Slice.Eq.{slice_eq-Decides}
-use Rattle.std.proofs.lemmas.Str.{IsUtf8-from_is_utf8}
-use Rattle.tg_text.specs.Spelling.{AreBytes, IsHash, IsTitle, is_printing, is_user_name}
+use Rattle.std.specs.List.{AllByRecursion}
+use Rattle.tg_text.specs.Spelling.{AreBytes, IsHash, IsTitle, is_user_name}
 use Rattle.tg_outside.specs.Contents.{FileMap, IsWord}
 use Rattle.lms_keep.specs.KeyText.{IsKeyState, key_text}
 use Rattle.lms_keep.specs.Making.{NewKeyHasAFile}
@@ -17,9 +11,7 @@ use Rattle.link_text.specs.TeamFile.{file_text}
 use Rattle.outcomes.specs.Refusing.{FindsNone, opening}
 use Rattle.outcomes.specs.Seeing.{IsCut}
 use Rattle.outcomes.specs.Steps.{World, Step, Outcome, after, drawn, draws, replace, writes}
-use Rattle.team_words.specs.Words.{are_two_files, command_of, is_field, is_title, make_of, merge_of, newkey_of}
-use Rattle.team_words.specs.declared.command.Command.{Command}
-use Rattle.team_words.specs.declared.command.Command.TheVariants.{Make, Merge, Newkey, Show}
+use Rattle.team_words.specs.declared.command.Command.TheVariants.{Make}
 use Rattle.key_commands.specs.Make.{make_text, making_team}
 use Rattle.key_commands.specs.MakeLaws.{MadeIsHeld}
 use Rattle.key_commands.specs.Newkey.{drawn_key}
@@ -28,57 +20,8 @@ use Rattle.team_run.specs.Running.{does_words}
 use Rattle.team_run.specs.Serving.{HoldsTeam}
 use Rattle.team_run.proofs.Cuts.{draws_replace_none, last_bytes, replaces_part, same_files, saying_replaces_none}
 use Rattle.team_run.proofs.Openings.{IsSaid, absent_or, founds}
-
--- what the words of `make` are
-abbrev IsRight : Option Command → Type 0
-IsRight None = Unit {0}
-IsRight (Some (Make file key_file user title)) = (file ≢ key_file) × IsTrue (is_user_name user) × IsTitle title
-IsRight (Some (Newkey key_file user)) = Unit {0}
-IsRight (Some (Merge file bundle)) = Unit {0}
-IsRight (Some (Show file)) = Unit {0}
-
-either : (b : Bool) (x y : Option Command) → (b ≡ true → IsRight x) → IsRight y → IsRight (cond b x y)
-either true x y one_right other_right = one_right refl
-either false x y one_right other_right = other_right
-
-title_is : (title : List ℕ) → is_title title ≡ true → IsTitle title
-title_is title e =
-    let all = and_parts (nat_le 1 (length title) && nat_le (length title) 128 && is_utf8 title) (list_all is_printing title) e in
-    let front = and_parts (nat_le 1 (length title) && nat_le (length title) 128) (is_utf8 title) all.0 in
-    let size = and_parts (nat_le 1 (length title)) (nat_le (length title) 128) front.0 in
-    record { some = leb-true 1 (length title) size.0; short = leb-true (length title) 128 size.1; text = IsUtf8-from_is_utf8 title front.1; printing = all.1 }
-
-files_differ : (file other : List ℕ) → are_two_files file other ≡ true → file ≢ other
-files_differ file other e same =
-    let parts = and_parts (is_field file && is_field other) (not (pointwise nat_eq file other)) e in
-    let equal = (slice_eq-Decides Decides-eqb file other (pointwise nat_eq file other) refl).1 same in
-    false≢true (rw equal at parts.1)
-
-make_right : (file key_file user title : List ℕ) → IsRight (make_of file key_file user title)
-make_right file key_file user title =
-    either (are_two_files file key_file && is_user_name user && (is_field title && is_title title)) (Some (Make file key_file user title)) None
-    (λ e.
-    let all = and_parts (are_two_files file key_file && is_user_name user) (is_field title && is_title title) e in
-    let front = and_parts (are_two_files file key_file) (is_user_name user) all.0 in
-    let last = and_parts (is_field title) (is_title title) all.1 in
-    (files_differ file key_file front.0, front.1, title_is title last.1)) tt
-
-merge_right : (file bundle : List ℕ) → IsRight (merge_of file bundle)
-merge_right file bundle = either (is_field file && is_field bundle) (Some (Merge file bundle)) None (λ t. tt) tt
-
-newkey_right : (key_file user : List ℕ) → IsRight (newkey_of key_file user)
-newkey_right key_file user = either (is_field key_file && is_user_name user) (Some (Newkey key_file user)) None (λ t. tt) tt
-
-words_right : (words : List (List ℕ)) → IsRight (command_of words)
-words_right [] = tt
-words_right (a ∷ []) = tt
-words_right (a ∷ b ∷ []) = either (pointwise nat_eq a (codes "show") && is_field b) (Some (Show b)) None (λ t. tt) tt
-words_right (a ∷ b ∷ c ∷ []) =
-    either (pointwise nat_eq a (codes "merge")) (merge_of b c) (cond (pointwise nat_eq a (codes "newkey")) (newkey_of b c) None) (λ t. merge_right b c)
-    (either (pointwise nat_eq a (codes "newkey")) (newkey_of b c) None (λ t. newkey_right b c) tt)
-words_right (a ∷ b ∷ c ∷ d ∷ []) = tt
-words_right (a ∷ b ∷ c ∷ d ∷ e ∷ []) = either (pointwise nat_eq a (codes "make")) (make_of b c d e) None (λ t. make_right b c d e) tt
-words_right (a ∷ b ∷ c ∷ d ∷ e ∷ f ∷ more) = tt
+use Rattle.team_run.proofs.Rights.{words_right}
+use Rattle.team_run.proofs.Runs.{does_of}
 
 -- each drawn word has 32 bytes
 zeros : (n : ℕ) → AreBytes (replicate n 0)
@@ -153,5 +96,5 @@ module _ (made_held : MadeIsHeld) (new_key : NewKeyHasAFile) (public_of : List �
 
 pub make_begins : MadeIsHeld → NewKeyHasAFile → MakeBeginsTeam
 make_begins made_held new_key public_of r file key_file user title sealed range words done =
-    begun made_held new_key public_of r file key_file user title sealed range (subst IsRight words (words_right r.words)) done.outcome done.cut done.replaced
-    (subst (λ (c : Option Command). does_words public_of c r.old done.outcome) words done.does)
+    begun made_held new_key public_of r file key_file user title sealed range (words_right words) done.outcome done.cut done.replaced
+    (does_of public_of r.words (Some (Make file key_file user title)) words r.old done.outcome done.does)

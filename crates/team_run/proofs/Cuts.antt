@@ -76,6 +76,11 @@ replaces_first name (replace other bytes ∷ a) b (inl e) = inl e
 replaces_first name (replace other bytes ∷ a) b (inr r) = inr (replaces_first name a b r)
 replaces_first name (write byte ∷ a) b r = replaces_first name a b r
 
+-- a first part of the steps, one of which replaces the file
+pub whole_replaces : (name : List ℕ) (o p : Outcome) (first rest : List Step) → o ≡ p → o.steps ≡ first ++ rest → Replaces name first → Replaces name p.steps
+whole_replaces name o p first rest is whole r =
+    subst (λ (x : Outcome). Replaces name x.steps) is (subst (λ (l : List Step). Replaces name l) (sym whole) (replaces_first name first rest r))
+
 -- what the whole replaces, one of its parts does
 pub replaces_part : (name : List ℕ) (a b : List Step) → Replaces name (a ++ b) → Replaces name a ⊎ Replaces name b
 replaces_part name [] b r = inr r

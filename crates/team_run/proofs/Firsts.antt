@@ -1,13 +1,12 @@
 -- How a file in which no team stands becomes a team's: by a run of `make` alone.
-use Rattle.std.proofs.Common.{◌≡◌, ◌≢◌, ◌⊎◌, ◌∙◌, inl, inr, ℕ, zero, suc, List, [], ◌∷◌, ◌++◌, Option, Some, None, codes, get_or, refl, sym, ap, subst, arith}
+use Rattle.std.proofs.Common.{◌≡◌, ◌≢◌, ◌⊎◌, ◌∙◌, inl, inr, ℕ, zero, suc, List, [], ◌∷◌, ◌++◌, Option, Some, None, codes, refl, sym, ap, subst, Bool, true, false}
 use Rattle.std.specs.FinMap as fin
+use Rattle.acts.specs.declared.entry.Act.{Act}
 use Rattle.tg_outside.specs.Contents.{FileMap}
-use Rattle.team_sets.specs.Names.{Name}
 use Rattle.team_model.specs.ShowText.{show_text}
 use Rattle.team_model.specs.declared.terms.Link.{Link}
 use Rattle.lms_keep.specs.KeyText.{key_text}
 use Rattle.lms_keep.specs.Signing.{advanced}
-use Rattle.lms_keep.specs.declared.key_state.KeyState.{KeyState}
 use Rattle.link_text.specs.TeamFile.{IsFileOf}
 use Rattle.link_graph.specs.Held.{Held}
 use Rattle.link_intake.specs.Merged.{IsHeldIn}
@@ -15,25 +14,28 @@ use Rattle.link_intake.specs.ResultsText.{results_text}
 use Rattle.outcomes.specs.Refusing.{FindsBytes, FindsNone, opening}
 use Rattle.outcomes.specs.Seeing.{AreKnown, IsCut}
 use Rattle.outcomes.specs.Steps.{World, Step, Outcome, after, after_step, draw, draws, put, puts, replace, saying, take_byte, write, writes}
-use Rattle.team_words.specs.Words.{command_of}
+use Rattle.openers.specs.Team.{FindsTeam}
+use Rattle.report_commands.specs.Why.{explaining}
+use Rattle.team_report.specs.HeadsText.{heads_text}
+use Rattle.team_report.specs.LogText.{log_text}
+use Rattle.team_words.specs.Words.{IsCommandOf}
 use Rattle.team_words.specs.declared.command.Command.{Command}
-use Rattle.team_words.specs.declared.command.Command.TheVariants.{Make, Merge, Newkey, Show}
+use Rattle.team_words.specs.declared.command.Command.TheVariants.{Heads, Log, Make, Merge, Newkey, Plain, Show, Why}
 use Rattle.key_commands.specs.Make.{founding_puts, make_text, making_team}
 use Rattle.key_commands.specs.Newkey.{drawn_key, making, newkey_text}
 use Rattle.exchange_commands.specs.Merge.{merged, merging}
+use Rattle.author_commands.specs.Authoring.{by_found_text, found_text, link_line}
+use Rattle.author_commands.specs.Plain.{plain_plan}
+use Rattle.author_commands.specs.Refusals.{refusal_line}
+use Rattle.author_commands.specs.declared.refusal.Refusal.TheVariants.{NameClash}
 use Rattle.team_run.specs.ManyRuns.{AreRuns, HoldsNone, IsBegun, IsReplaced, IsRun, OneRun, Replaces, TeamsAreBegun, root_of, told}
-use Rattle.team_run.specs.Running.{does_words}
+use Rattle.team_run.specs.Running.{does_run, does_words}
 use Rattle.team_run.specs.Serving.{HoldsTeam}
-use Rattle.team_run.proofs.Cuts.{file_kept, given_bytes, one_name, replaced_or_not, same_files, saying_replaces_none, told_known, writes_replace_none}
-use Rattle.team_run.proofs.Growing.{whole_replaces}
+use Rattle.team_run.proofs.Cuts.{file_kept, given_bytes, one_name, replaced_or_not, same_files, saying_replaces_none, told_known, whole_replaces, writes_replace_none}
+use Rattle.team_run.proofs.KeyFiles.{IsNoTeam, key_no_team}
 use Rattle.team_run.proofs.Openings.{IsSaid, absent_or, founds, some_same, team_or, there_or}
-
--- the bytes are no team's file
-abbrev IsNoTeam : List ℕ → Type 0
-IsNoTeam bytes = (t : Name) (links : List Link) → ¬ (IsFileOf bytes t links)
-
-key_no_team : (s : KeyState) → IsNoTeam (key_text s)
-key_no_team s t links file = let bad : ◌≡◌ {A = ℕ} 107 102 = ap (λ (bytes : List ℕ). get_or bytes 5 0) file.is_text in omega (arith, bad)
+use Rattle.team_run.proofs.Reports.{IsSaying, report_replaces_none, says_why}
+use Rattle.team_run.proofs.Posted.{IsRefused, IsSigned, link_by, posted_outcome, signed_or, signed_outcome}
 
 -- each step that replaces the file gives it the bytes of no team's file
 abbrev GivesNoTeam : List ℕ → List Step → Type 0
@@ -149,18 +151,37 @@ module _ (public_of : List ℕ → List ℕ) (w : World) (name : List ℕ) (o : 
       left_of (making public_of key_file s) is
       (gives_both name (draws 3) (puts (put key_file (key_text s) ∷ []) ++ writes (newkey_text public_of s)) (gives_drawn name 3) ((λ e. key_no_team s), gives_written name (newkey_text public_of s)))
 
+  module _ (file key_file : List ℕ) (act : Act) where
+    gives_posted : file ≢ name → (held : Held) (link : Link) (found : Option Bool) → GivesNoTeam name (by_found_text file held link found).steps
+    gives_posted differ held link None = ((λ e. absurd (differ e)), gives_written name (link_line link.name))
+    gives_posted differ held link (Some true) = ((λ e. absurd (differ e)), gives_written name (link_line link.name))
+    gives_posted differ held link (Some false) = gives_written name (refusal_line (NameClash link.name))
+
+    plain_left : does_words public_of (Some (Plain file key_file act)) w o → HoldsNone w.files name → HasNoTeam (after first w).files name
+    plain_left d none = go (signed_or (plain_plan act w.moment) file key_file w o d.1)
+      where
+        go : IsRefused o ⊎ IsSigned (plain_plan act w.moment) file key_file w o → HasNoTeam (after first w).files name
+        go (inl refused) = absurd (saying_replaces_none name refused.1 refused.0 o first rest refused.3 whole replaced)
+        go (inr (held, key, draft, opened, is)) =
+            let differ : file ≢ name = λ e. none held (opened.bytes, subst (λ (n : List ℕ). fin.get w.files n ≡ Some opened.bytes) e opened.there, opened.in_file.file) in
+            left_of (signed_outcome key_file key (posted_outcome file held (link_by key draft))) is
+            ((λ e. key_no_team (advanced key)), gives_posted differ held (link_by key draft) (found_text held (link_by key draft)))
+
+  none_replaced : (file : List ℕ) (tells : Held → Outcome) → ((held : Held) → IsSaying (tells held)) → opening FindsTeam file (λ held w o. o ≡ tells held) w o → ⊥
+  none_replaced file tells says d = report_replaces_none file name tells says w o first rest whole replaced d
+
   pub command_left : (command : Option Command) → does_words public_of command w o → HoldsNone w.files name → Left command
   command_left None d none = absurd (saying_replaces_none name (codes "usage\n") 2 o first rest d whole replaced)
   command_left (Some (Make file key_file user title)) d none = make_left file key_file user title d (one_name file name)
   command_left (Some (Newkey key_file user)) d none = inl (newkey_left key_file user (absent_or key_file (λ none w o. o ≡ making public_of key_file (drawn_key user w)) w o d))
+  command_left (Some (Plain file key_file act)) d none = inl (plain_left file key_file act d none)
   command_left (Some (Merge file bundle)) d none =
       let team = merge_found file bundle (team_or file (λ held. opening FindsBytes bundle (λ given. merging file held given)) w o d) in
       absurd (none team.0 team.1)
-  command_left (Some (Show file)) d none = inl (shown (team_or file (λ held w o. o ≡ saying 0 (show_text held.team held.links)) w o d))
-    where
-      shown : IsSaid o ⊎ ((held : Held) × (bytes : List ℕ) × (fin.get w.files file ≡ Some bytes) × IsHeldIn bytes held × (o ≡ saying 0 (show_text held.team held.links))) → HasNoTeam (after first w).files name
-      shown (inl said) = not_said said
-      shown (inr (held, bytes, at, in_file, is)) = absurd (saying_replaces_none name (show_text held.team held.links) 0 o first rest is whole replaced)
+  command_left (Some (Show file)) d none = absurd (none_replaced file (λ held. saying 0 (show_text held.team held.links)) (λ held. (show_text held.team held.links, 0, refl)) d)
+  command_left (Some (Log file)) d none = absurd (none_replaced file (λ held. saying 0 (log_text held.links)) (λ held. (log_text held.links, 0, refl)) d)
+  command_left (Some (Heads file)) d none = absurd (none_replaced file (λ held. saying 0 (heads_text held.links)) (λ held. (heads_text held.links, 0, refl)) d)
+  command_left (Some (Why file link)) d none = absurd (none_replaced file (λ held. explaining held.links link) (λ held. says_why held link) d)
 
 -- a file that has the bytes of no team's file, or those of one in which no team stands
 holds_none : (files : FileMap) (name : List ℕ) → HasNoTeam files name → HoldsNone files name
@@ -171,23 +192,27 @@ still_none : (files more : FileMap) (name : List ℕ) → fin.get more name ≡ 
 still_none files more name same none held (bytes, there, file) = none held (bytes, sym same ∙ there, file)
 
 module _ (public_of : List ℕ → List ℕ) (name : List ℕ) where
+  -- the words of a run found the team of the file
+  abbrev IsMake : OneRun → Type 0
+  IsMake r = (key_file : List ℕ) × (user : List ℕ) × (title : List ℕ) × IsCommandOf r.words (Some (Make name key_file user title))
+
   -- one run
   module _ (r : OneRun) (is : IsRun public_of r) (none : HoldsNone r.old.files name) where
     abbrev Becomes : Type 0
-    Becomes = HoldsNone r.new.files name
-        ⊎ (((key_file : List ℕ) × (user : List ℕ) × (title : List ℕ) × (command_of r.words ≡ Some (Make name key_file user title))) × IsReplaced public_of r name)
+    Becomes = HoldsNone r.new.files name ⊎ (IsMake r × IsReplaced public_of r name)
 
-    left : (o : Outcome) → does_words public_of (command_of r.words) r.old o → (cut : IsCut (told r.new) o.steps r.old) → Replaces name cut.first
-        → HasNoTeam (after cut.first r.old).files name ⊎ ((key_file : List ℕ) × (user : List ℕ) × (title : List ℕ) × (command_of r.words ≡ Some (Make name key_file user title))) → Becomes
+    left : (o : Outcome) → (d : does_run public_of r.words r.old o) → (cut : IsCut (told r.new) o.steps r.old) → Replaces name cut.first
+        → HasNoTeam (after cut.first r.old).files name ⊎ ((key_file : List ℕ) × (user : List ℕ) × (title : List ℕ) × (d.0 ≡ Some (Make name key_file user title))) → Becomes
     left o d cut hit (inl other) = inl (holds_none r.new.files name (subst (λ (m : FileMap). HasNoTeam m name) (sym (same_files r.new (after cut.first r.old) cut.told)) other))
-    left o d cut hit (inr make) = inr (make, record { outcome = o; does = d; cut = cut; replaced = hit })
+    left o d cut hit (inr (key_file, user, title, make)) =
+        inr ((key_file, user, title, subst (λ (c : Option Command). IsCommandOf r.words c) make d.1), record { outcome = o; does = d; cut = cut; replaced = hit })
 
-    by_cut : (o : Outcome) → does_words public_of (command_of r.words) r.old o → (cut : IsCut (told r.new) o.steps r.old) → Replaces name cut.first ⊎ (¬ (Replaces name cut.first)) → Becomes
-    by_cut o d cut (inl hit) = left o d cut hit (command_left public_of r.old name o cut.first cut.rest cut.whole hit (command_of r.words) d none)
+    by_cut : (o : Outcome) → does_run public_of r.words r.old o → (cut : IsCut (told r.new) o.steps r.old) → Replaces name cut.first ⊎ (¬ (Replaces name cut.first)) → Becomes
+    by_cut o d cut (inl hit) = left o d cut hit (command_left public_of r.old name o cut.first cut.rest cut.whole hit d.0 d.2 none)
     by_cut o d cut (inr miss) =
         inl (still_none r.old.files r.new.files name (ap (λ (m : FileMap). fin.get m name) (same_files r.new (after cut.first r.old) cut.told) ∙ file_kept cut.first r.old name miss) none)
 
-    cut_becomes : AreKnown (told r.new) r.old ⊎ ((o : Outcome) × does_words public_of (command_of r.words) r.old o × IsCut (told r.new) o.steps r.old) → Becomes
+    cut_becomes : AreKnown (told r.new) r.old ⊎ ((o : Outcome) × does_run public_of r.words r.old o × IsCut (told r.new) o.steps r.old) → Becomes
     cut_becomes (inl nothing) = inl (still_none r.old.files r.new.files name (ap (λ (m : FileMap). fin.get m name) (same_files r.new r.old nothing)) none)
     cut_becomes (inr (o, d, cut)) = by_cut o d cut (replaced_or_not name cut.first)
 
@@ -213,7 +238,7 @@ module _ (public_of : List ℕ → List ℕ) (name : List ℕ) where
   team_begun files last (r ∷ runs) new are none there =
       go (becomes r are.1 (subst (λ (m : FileMap). HoldsNone m name) (sym are.0) none)) (λ still. team_begun r.new.files last runs new are.2 still there)
     where
-      go : HoldsNone r.new.files name ⊎ (((key_file : List ℕ) × (user : List ℕ) × (title : List ℕ) × (command_of r.words ≡ Some (Make name key_file user title))) × IsReplaced public_of r name)
+      go : HoldsNone r.new.files name ⊎ (IsMake r × IsReplaced public_of r name)
           → (HoldsNone r.new.files name → IsBegun public_of runs name last) → IsBegun public_of (r ∷ runs) name last
       go (inl still) more = later last runs r (more still)
       go (inr (make, replaced)) more = record {

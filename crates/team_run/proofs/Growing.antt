@@ -4,7 +4,7 @@ use Rattle.std.specs.FinMap as fin
 use Rattle.tg_outside.specs.Contents.{FileMap}
 use Rattle.team_model.specs.ShowText.{show_text}
 use Rattle.team_model.specs.declared.terms.Link.{Link}
-use Rattle.lms_keep.specs.KeyText.{key_text}
+use Rattle.lms_keep.specs.KeyText.{KeyIsSpelledOnce, key_text}
 use Rattle.lms_keep.specs.declared.key_state.KeyState.{KeyState}
 use Rattle.link_text.specs.LinkText.{LinkIsSpelledOnce}
 use Rattle.link_text.specs.TeamFile.{IsFileOf, file_text}
@@ -23,17 +23,26 @@ use Rattle.link_intake.proofs.Unions.{clash_later, clash_within, fits_later, fit
 use Rattle.outcomes.specs.Refusing.{FindsBytes, FindsNone, opening}
 use Rattle.outcomes.specs.Seeing.{AreKnown, IsCut}
 use Rattle.outcomes.specs.Steps.{World, Step, Outcome, after, draws, put, puts, replace, saying, writes}
-use Rattle.team_words.specs.Words.{command_of}
+use Rattle.openers.specs.Team.{FindsTeam}
+use Rattle.team_report.specs.HeadsText.{heads_text}
+use Rattle.team_report.specs.LogText.{log_text}
 use Rattle.team_words.specs.declared.command.Command.{Command}
-use Rattle.team_words.specs.declared.command.Command.TheVariants.{Make, Merge, Newkey, Show}
+use Rattle.team_words.specs.declared.command.Command.TheVariants.{Heads, Log, Make, Merge, Newkey, Plain, Show, Why}
 use Rattle.key_commands.specs.Make.{founding_puts, make_text, making_team}
 use Rattle.key_commands.specs.Newkey.{drawn_key, making, newkey_text}
 use Rattle.exchange_commands.specs.Merge.{merged, merging}
+use Rattle.report_commands.specs.Why.{explaining}
+use Rattle.author_commands.specs.Plain.{plain_plan}
+use Rattle.author_commands.proofs.Sound.{one_plan, plain_sound}
 use Rattle.team_run.specs.ManyRuns.{AreRuns, IsGivenBy, IsGivenIn, IsReplaced, IsRun, OneRun, Replaces, WordsGive, root_of, told}
-use Rattle.team_run.specs.Running.{does_words}
+use Rattle.team_run.specs.Running.{does_run, does_words}
 use Rattle.team_run.specs.Serving.{HoldsTeam}
-use Rattle.team_run.proofs.Cuts.{draws_replace_none, file_kept, last_bytes, replaced_or_not, replaces_first, replaces_part, same_files, saying_replaces_none, told_known, writes_replace_none}
+use Rattle.team_run.proofs.Cuts.{draws_replace_none, file_kept, last_bytes, replaced_or_not, replaces_part, same_files, saying_replaces_none, told_known, whole_replaces, writes_replace_none}
 use Rattle.team_run.proofs.Openings.{IsSaid, absent_or, founds, never_both, some_same, team_or, there_or}
+use Rattle.team_run.proofs.Posted.{authored_grows}
+use Rattle.team_run.proofs.Reports.{IsSaying, report_replaces_none, says_why}
+use Rattle.team_run.proofs.Rights.{IsRight, words_right}
+use Rattle.team_run.proofs.Runs.{CommandGives, words_give}
 
 -- the same texts are given
 union_alike : (old new : Held) (G H : List ℕ → Type 0) → ((b : List ℕ) → G b ↔ H b) → IsUnion old G new → IsUnion old H new
@@ -53,11 +62,6 @@ union_alike old new G H same u = record { team = u.team; texts = λ b. (forth b,
 among_more : (old : Held) (G H : List ℕ → Type 0) → ((b : List ℕ) → H b → G b) → (b : List ℕ) → IsAmong old H b → IsAmong old G b
 among_more old G H more b (inl h) = inl h
 among_more old G H more b (inr k) = inr (more b k)
-
--- a first part of the steps, one of which replaces the file
-pub whole_replaces : (name : List ℕ) (o p : Outcome) (first rest : List Step) → o ≡ p → o.steps ≡ first ++ rest → Replaces name first → Replaces name p.steps
-whole_replaces name o p first rest is whole r =
-    subst (λ (x : Outcome). Replaces name x.steps) is (subst (λ (l : List Step). Replaces name l) (sym whole) (replaces_first name first rest r))
 
 -- a command that makes files found each of them absent
 module _ (public_of : List ℕ → List ℕ) (file key_file user title : List ℕ) (w : World) (o : Outcome) (name : List ℕ) (first rest : List Step) (whole : o.steps ≡ first ++ rest)
@@ -117,12 +121,12 @@ module _ (public_of : List ℕ → List ℕ) (key_file user : List ℕ) (w : Wor
   pub newkey_absent : does_words public_of (Some (Newkey key_file user)) w o → fin.get w.files name ≡ None
   newkey_absent d = by_key_file (absent_or key_file (λ none w o. o ≡ making public_of key_file (drawn_key user w)) w o d)
 
-module _ (once : LinkIsSpelledOnce) (file_once : FileIsReadOnce) (bundle_once : BundleIsReadOnce) (public_of : List ℕ → List ℕ) (w : World) (name : List ℕ) (old : Held)
+module _ (once : LinkIsSpelledOnce) (file_once : FileIsReadOnce) (bundle_once : BundleIsReadOnce) (key_once : KeyIsSpelledOnce) (public_of : List ℕ → List ℕ) (w : World) (name : List ℕ) (old : Held)
     (there : HoldsTeam w.files name old) (o : Outcome) (first rest : List Step) (whole : o.steps ≡ first ++ rest) (replaced : Replaces name first) where
   -- the file is the union of its links and what the command gives
   abbrev Grows : Option Command → Type 0
-  Grows command = NoClash old (WordsGive public_of command w name) → Fits old (WordsGive public_of command w name)
-      → (new : Held) × HoldsTeam (after first w).files name new × IsUnion old (WordsGive public_of command w name) new
+  Grows command = NoClash old (CommandGives public_of command w name) → Fits old (CommandGives public_of command w name)
+      → (new : Held) × HoldsTeam (after first w).files name new × IsUnion old (CommandGives public_of command w name) new
 
   -- a refusal replaces nothing
   not_said : {T : Type 0} → IsSaid o → T
@@ -130,7 +134,7 @@ module _ (once : LinkIsSpelledOnce) (file_once : FileIsReadOnce) (bundle_once : 
 
   module _ (file bundle : List ℕ) where
     abbrev Gives : List ℕ → Type 0
-    Gives = WordsGive public_of (Some (Merge file bundle)) w name
+    Gives = CommandGives public_of (Some (Merge file bundle)) w name
 
     -- the bundle was given to the links of the file
     module _ (held : Held) (bytes given : List ℕ) (at : fin.get w.files file ≡ Some bytes) (in_file : IsHeldIn bytes held) (at_bundle : fin.get w.files bundle ≡ Some given) (new : Held)
@@ -184,28 +188,32 @@ module _ (once : LinkIsSpelledOnce) (file_once : FileIsReadOnce) (bundle_once : 
     file_grows (inl said) apart fits = not_said said
     file_grows (inr (held, bytes, at, in_file, d)) apart fits = bundle_grows held bytes at in_file (there_or bundle (λ given. merging file held given) w o d) apart fits
 
-  pub command_grows : (command : Option Command) → does_words public_of command w o → Grows command
-  command_grows None d apart fits = absurd (saying_replaces_none name (codes "usage\n") 2 o first rest d whole replaced)
-  command_grows (Some (Make file key_file user title)) d apart fits =
-      absurd (never_both (fin.get w.files name) there.0 there.1 (made_absent public_of file key_file user title w o name first rest whole replaced d))
-  command_grows (Some (Newkey key_file user)) d apart fits =
-      absurd (never_both (fin.get w.files name) there.0 there.1 (newkey_absent public_of key_file user w o name first rest whole replaced d))
-  command_grows (Some (Merge file bundle)) d apart fits = file_grows file bundle (team_or file (λ held. opening FindsBytes bundle (λ given. merging file held given)) w o d) apart fits
-  command_grows (Some (Show file)) d apart fits = go (team_or file (λ held w o. o ≡ saying 0 (show_text held.team held.links)) w o d)
-    where
-      go : IsSaid o ⊎ ((held : Held) × (bytes : List ℕ) × (fin.get w.files file ≡ Some bytes) × IsHeldIn bytes held × (o ≡ saying 0 (show_text held.team held.links)))
-          → (new : Held) × HoldsTeam (after first w).files name new × IsUnion old (WordsGive public_of (Some (Show file)) w name) new
-      go (inl said) = not_said said
-      go (inr (held, bytes, at, in_file, is)) = absurd (saying_replaces_none name (show_text held.team held.links) 0 o first rest is whole replaced)
+  none_replaced : (file : List ℕ) (tells : Held → Outcome) → ((held : Held) → IsSaying (tells held)) → opening FindsTeam file (λ held w o. o ≡ tells held) w o → ⊥
+  none_replaced file tells says d = report_replaces_none file name tells says w o first rest whole replaced d
 
-module _ (once : LinkIsSpelledOnce) (file_once : FileIsReadOnce) (bundle_once : BundleIsReadOnce) (public_of : List ℕ → List ℕ) (name : List ℕ) where
+  pub command_grows : (command : Option Command) → IsRight command → does_words public_of command w o → Grows command
+  command_grows None right d apart fits = absurd (saying_replaces_none name (codes "usage\n") 2 o first rest d whole replaced)
+  command_grows (Some (Make file key_file user title)) right d apart fits =
+      absurd (never_both (fin.get w.files name) there.0 there.1 (made_absent public_of file key_file user title w o name first rest whole replaced d))
+  command_grows (Some (Newkey key_file user)) right d apart fits =
+      absurd (never_both (fin.get w.files name) there.0 there.1 (newkey_absent public_of key_file user w o name first rest whole replaced d))
+  command_grows (Some (Plain file key_file act)) may d apart fits =
+      authored_grows file_once key_once (plain_plan act w.moment) file key_file w name o first rest whole replaced (one_plan act w.moment)
+      (λ held s p is range h. plain_sound act w.moment may d.0 held s is range p h) old there d.1
+  command_grows (Some (Merge file bundle)) right d apart fits = file_grows file bundle (team_or file (λ held. opening FindsBytes bundle (λ given. merging file held given)) w o d) apart fits
+  command_grows (Some (Show file)) right d apart fits = absurd (none_replaced file (λ held. saying 0 (show_text held.team held.links)) (λ held. (show_text held.team held.links, 0, refl)) d)
+  command_grows (Some (Log file)) right d apart fits = absurd (none_replaced file (λ held. saying 0 (log_text held.links)) (λ held. (log_text held.links, 0, refl)) d)
+  command_grows (Some (Heads file)) right d apart fits = absurd (none_replaced file (λ held. saying 0 (heads_text held.links)) (λ held. (heads_text held.links, 0, refl)) d)
+  command_grows (Some (Why file link)) right d apart fits = absurd (none_replaced file (λ held. explaining held.links link) (λ held. says_why held link) d)
+
+module _ (once : LinkIsSpelledOnce) (file_once : FileIsReadOnce) (bundle_once : BundleIsReadOnce) (key_once : KeyIsSpelledOnce) (public_of : List ℕ → List ℕ) (name : List ℕ) where
   -- one run
   module _ (r : OneRun) (old : Held) (there : HoldsTeam r.old.files name old) where
     abbrev Given : List ℕ → Type 0
     Given = IsGivenIn public_of r name
 
     abbrev ToGive : List ℕ → Type 0
-    ToGive = WordsGive public_of (command_of r.words) r.old name
+    ToGive = WordsGive public_of r.words r.old name
 
     abbrev Union : Type 0
     Union = (new : Held) × HoldsTeam r.new.files name new × IsUnion old Given new
@@ -214,10 +222,16 @@ module _ (once : LinkIsSpelledOnce) (file_once : FileIsReadOnce) (bundle_once : 
     replaced_union : IsReplaced public_of r name → NoClash old Given → Fits old Given → (new : Held) × HoldsTeam r.new.files name new × IsUnion old ToGive new
     replaced_union done apart fits =
         let cut = done.cut in
-        let among = among_more old Given ToGive (λ b k. (done, k)) in
-        let grown = command_grows once file_once bundle_once public_of r.old name old there done.outcome cut.first cut.rest cut.whole done.replaced (command_of r.words) done.does
-        (clash_within old old Given ToGive refl among apart) (fits_within old old Given ToGive refl among fits) in
-        (grown.0, subst (λ (m : FileMap). HoldsTeam m name grown.0) (sym (same_files r.new (after cut.first r.old) cut.told)) grown.1, grown.2)
+        let command = done.does.0 in
+        let Gives = CommandGives public_of command r.old name in
+        let same = λ (b : List ℕ). words_give public_of r.words r.old name b command done.does.1 in
+        let among = among_more old Given Gives (λ b k. (done, (same b).1 k)) in
+        let grown = command_grows once file_once bundle_once key_once public_of r.old name old there done.outcome cut.first cut.rest cut.whole done.replaced command (words_right done.does.1) done.does.2
+        (clash_within old old Given Gives refl among apart) (fits_within old old Given Gives refl among fits) in (
+          grown.0,
+          subst (λ (m : FileMap). HoldsTeam m name grown.0) (sym (same_files r.new (after cut.first r.old) cut.told)) grown.1,
+          union_alike old grown.0 Gives ToGive (λ b. ((same b).1, (same b).0)) grown.2,
+        )
 
     grown_union : IsReplaced public_of r name → NoClash old Given → Fits old Given → Union
     grown_union done apart fits =
@@ -242,12 +256,12 @@ module _ (once : LinkIsSpelledOnce) (file_once : FileIsReadOnce) (bundle_once : 
     pub run_union : IsRun public_of r → NoClash old Given → Fits old Given → Union
     run_union is apart fits = go (is.cut r.old (told_known r.old))
       where
-        by_cut : (o : Outcome) → does_words public_of (command_of r.words) r.old o → (cut : IsCut (told r.new) o.steps r.old) → Replaces name cut.first ⊎ (¬ (Replaces name cut.first)) → Union
+        by_cut : (o : Outcome) → does_run public_of r.words r.old o → (cut : IsCut (told r.new) o.steps r.old) → Replaces name cut.first ⊎ (¬ (Replaces name cut.first)) → Union
         by_cut o d cut (inl hit) = grown_union (record { outcome = o; does = d; cut = cut; replaced = hit }) apart fits
         by_cut o d cut (inr none) =
             same_union (ap (λ (m : FileMap). fin.get m name) (same_files r.new (after cut.first r.old) cut.told) ∙ file_kept cut.first r.old name none) apart fits
 
-        go : AreKnown (told r.new) r.old ⊎ ((o : Outcome) × does_words public_of (command_of r.words) r.old o × IsCut (told r.new) o.steps r.old) → Union
+        go : AreKnown (told r.new) r.old ⊎ ((o : Outcome) × does_run public_of r.words r.old o × IsCut (told r.new) o.steps r.old) → Union
         go (inl nothing) = same_union (ap (λ (m : FileMap). fin.get m name) (same_files r.new r.old nothing)) apart fits
         go (inr (o, d, cut)) = by_cut o d cut (replaced_or_not name cut.first)
 

@@ -3,7 +3,12 @@ mod Begun
 mod Cuts
 mod Firsts
 mod Growing
+mod KeyFiles
 mod Openings
+mod Posted
+mod Reports
+mod Rights
+mod Runs
 mod Served
 mod Shown
 mod Statuses

@@ -5,6 +5,9 @@ use Rattle.link_graph.specs.Held.{Held}
 use Rattle.link_intake.specs.Merged.{IsHeldIn}
 use Rattle.outcomes.specs.Refusing.{FindsBytes, FindsNone, Found, by_found, fault_line, holds, opening, refuses}
 use Rattle.outcomes.specs.Steps.{World, Outcome, saying}
+use Rattle.lms_keep.specs.KeyText.{IsKeyFile}
+use Rattle.lms_keep.specs.declared.key_state.KeyState.{KeyState}
+use Rattle.openers.specs.Key.{FindsKey}
 use Rattle.openers.specs.Team.{FindsTeam}
 use Rattle.key_commands.specs.Make.{making_team}
 use Rattle.key_commands.specs.Newkey.{drawn_key}
@@ -83,3 +86,23 @@ module _ (name : List ℕ) (then : Held → World → Outcome → Type 0) (w : W
       go : (x : Found Held) → FindsTeam (Some bytes) x → by_found name then x w o → Team
       go (refuses word) found d = absurd (found.0 held.team held.links file)
       go (holds h) found d = (h, bytes, at, found, d)
+
+-- a key's file
+module _ (name : List ℕ) (then : KeyState → World → Outcome → Type 0) (w : World) (o : Outcome) where
+  abbrev Key : Type 0
+  Key = (s : KeyState) × (bytes : List ℕ) × (fin.get w.files name ≡ Some bytes) × IsKeyFile bytes s × then s w o
+
+  key_by : (f : Option (List ℕ)) (x : Found KeyState) → fin.get w.files name ≡ f → FindsKey f x → by_found name then x w o → IsSaid o ⊎ Key
+  key_by f (refuses word) e found d = inl (fault_line name word, d)
+  key_by None (holds s) e found d = absurd found
+  key_by (Some b) (holds s) e found d = inr (s, b, e, found, d)
+
+  pub key_or : opening FindsKey name then w o → IsSaid o ⊎ Key
+  key_or d = key_by (fin.get w.files name) d.0 refl d.1 d.2
+
+  pub key_opens : (s : KeyState) (bytes : List ℕ) → fin.get w.files name ≡ Some bytes → IsKeyFile bytes s → opening FindsKey name then w o → Key
+  key_opens s bytes at file d = go d.0 (subst (λ (f : Option (List ℕ)). FindsKey f d.0) at d.1) d.2
+    where
+      go : (x : Found KeyState) → FindsKey (Some bytes) x → by_found name then x w o → Key
+      go (refuses word) found d = absurd (found.0 s file)
+      go (holds t) found d = (t, bytes, at, found, d)

@@ -1,25 +1,46 @@
 -- What `show` prints of a team's file, and when a merge has replaced it.
-use Rattle.std.proofs.Common.{◌≡◌, ◌<◌, ◌⊎◌, ◌∙◌, inl, inr, ℕ, List, [], ◌∷◌, ◌++◌, Contains, Option, Some, refl, sym, ap, append-nil, subst, arith}
+use Rattle.std.proofs.Common.{◌≡◌, ◌<◌, ◌⊎◌, ◌∙◌, inl, inr, ℕ, Bool, true, false, List, [], ◌∷◌, ◌++◌, Contains, Option, Some, None, refl, sym, ap, append-nil, subst, arith}
 use Rattle.std.specs.FinMap as fin
+use Rattle.tg_outside.specs.Contents.{FileMap}
 use Rattle.std.proofs.lemmas.List.Elements.{All-contains, All-from_recursion}
+use Rattle.acts.specs.declared.entry.Act.{Act}
 use Rattle.team_sets.specs.Names.{Name}
 use Rattle.team_model.specs.JudgingLaws.{TextIsOfSet}
 use Rattle.team_model.specs.ShowText.{show_text}
+use Rattle.team_model.specs.declared.terms.Link.{Link}
 use Rattle.team_files.specs.FileLaws.{FileIsReadOnce}
-use Rattle.link_text.specs.TeamFile.{IsFileOf}
+use Rattle.lms_keep.specs.KeyText.{IsKeyState, KeyIsSpelledOnce}
+use Rattle.lms_keep.specs.declared.key_state.KeyState.{KeyState}
+use Rattle.link_text.specs.LinkText.{text}
+use Rattle.link_text.specs.TeamFile.{IsFileOf, IsHeld}
+use Rattle.link_text.specs.declared.draft.Draft.{Draft}
 use Rattle.link_graph.specs.Held.{Held}
 use Rattle.link_intake.specs.Merged.{IsHeldIn}
-use Rattle.outcomes.specs.Refusing.{FindsBytes, opening}
+use Rattle.link_intake.specs.UnionLaws.{IsValidText}
+use Rattle.outcomes.specs.Refusing.{FindsBytes, holds, opening}
 use Rattle.outcomes.specs.Seeing.{AreKnown}
 use Rattle.outcomes.specs.Steps.{World, Outcome, after, saying}
 use Rattle.outcomes.proofs.Joining.{after-writes}
-use Rattle.team_words.specs.Words.{command_of}
-use Rattle.team_words.specs.declared.command.Command.{Command}
+use Rattle.openers.specs.Key.{FindsKey}
+use Rattle.openers.specs.Team.{FindsTeam}
+use Rattle.team_words.specs.Words.{IsCommandOf}
+use Rattle.team_words.specs.declared.command.Command.TheVariants.{Merge, Plain, Show}
+use Rattle.author_commands.specs.Authoring.{IsAuthoredText, by_found_text, found_text}
+use Rattle.author_commands.specs.Plain.{plain_plan, plains}
+use Rattle.author_commands.specs.Signing.{IsSound}
+use Rattle.author_commands.specs.declared.planner.Planned.{Planned}
+use Rattle.author_commands.specs.declared.planner.Planned.TheVariants.{Writes}
+use Rattle.author_commands.proofs.Sound.{one_plan, plain_sound}
+use Rattle.author_commands.proofs.Taken.{signed_valid}
 use Rattle.exchange_commands.specs.Merge.{merging}
-use Rattle.team_run.specs.ManyRuns.{IsReplaced, MergeIsDone, OneRun, Replaces, RunsLeaveUnion, ShowAfterRuns, ShowPrintsTeam, told}
-use Rattle.team_run.specs.Running.{does_words}
-use Rattle.team_run.proofs.Cuts.{told_known}
+use Rattle.team_run.specs.ManyRuns.{IsPut, IsReplaced, MergeIsDone, OneRun, PlainIsDone, Replaces, RunsLeaveUnion, ShowAfterRuns, ShowPrintsTeam, told}
+use Rattle.team_run.specs.Running.{does_run}
+use Rattle.team_run.specs.Serving.{HoldsTeam}
+use Rattle.team_run.proofs.Cuts.{same_files, told_known}
 use Rattle.team_run.proofs.Openings.{IsSaid, some_same, team_opens, team_or, there_or}
+use Rattle.team_run.proofs.Posted.{IsOpened, IsRefused, IsSigned, authored_grows, link_by, posted_outcome, signed_or, signed_outcome}
+use Rattle.team_run.proofs.Rights.{words_right}
+use Rattle.team_run.proofs.Runs.{does_of}
 
 same_taken : (w v : World) → AreKnown (told w) v → w.taken ≡ v.taken
 same_taken w v is = some_same w.taken v.taken is.taken
@@ -33,7 +54,7 @@ text_held file_once of_set bytes a b x y =
 pub show_prints : FileIsReadOnce → TextIsOfSet → ShowPrintsTeam
 show_prints file_once of_set public_of r name held is words there low =
     let ran = is.done r.old (told_known r.old) low in
-    let does = subst (λ (c : Option Command). does_words public_of c r.old ran.0) words ran.1 in
+    let does = does_of public_of r.words (Some (Show name)) words r.old ran.0 ran.1 in
     let opened = team_opens name (λ held w o. o ≡ saying 0 (show_text held.team held.links)) r.old ran.0 held there does in
     let shown = opened.0 in
     let same = text_held file_once of_set opened.1 shown held opened.3.file
@@ -54,7 +75,7 @@ low_status status among =
     All-contains (λ (n : ℕ). n < 5) (0 ∷ 1 ∷ []) status (All-from_recursion (λ (n : ℕ). n < 5) (0 ∷ 1 ∷ []) (omega arith, (omega arith, tt))) among
 
 module _ (public_of : List ℕ → List ℕ) (r : OneRun) (file bundle : List ℕ) (among : Contains {X = ℕ} (0 ∷ 1 ∷ []) r.status) (o : Outcome)
-    (does : does_words public_of (command_of r.words) r.old o) (ends : r.status ≡ o.status) (left : AreKnown (told r.new) (after o.steps r.old)) where
+    (does : does_run public_of r.words r.old o) (ends : r.status ≡ o.status) (left : AreKnown (told r.new) (after o.steps r.old)) where
   not_said : IsSaid o → IsReplaced public_of r file
   not_said said = absurd (never_three r.status among (ends ∙ ap (λ (x : Outcome). x.status) said.1))
 
@@ -75,8 +96,75 @@ module _ (public_of : List ℕ → List ℕ) (r : OneRun) (file bundle : List �
 pub merge_done : MergeIsDone
 merge_done public_of r file bundle is words among =
     let ran = is.done r.old (told_known r.old) (low_status r.status among) in
-    let does = subst (λ (c : Option Command). does_words public_of c r.old ran.0) words ran.1 in
+    let does = does_of public_of r.words (Some (Merge file bundle)) words r.old ran.0 ran.1 in
     by_file public_of r file bundle among ran.0 ran.1 ran.2 ran.3 (team_or file (λ held. opening FindsBytes bundle (λ given. merging file held given)) r.old ran.0 does)
+
+-- a link that was signed is put into the file, where the run ends with 0
+module _ (file_once : FileIsReadOnce) (key_once : KeyIsSpelledOnce) (public_of : List ℕ → List ℕ) (r : OneRun) (file key_file : List ℕ) (act : Act)
+    (words : IsCommandOf r.words (Some (Plain file key_file act))) (zero : r.status ≡ 0) (o : Outcome) (does : does_run public_of r.words r.old o) (ends : r.status ≡ o.status)
+    (left : AreKnown (told r.new) (after o.steps r.old)) where
+  abbrev plans : Held → KeyState → Planned → Type 0
+  plans = plain_plan act r.old.moment
+
+  put_by : (held : Held) (link : Link) (found : Option Bool) → (by_found_text file held link found).status ≡ 0 → Replaces file (by_found_text file held link found).steps
+  put_by held link None e = inl refl
+  put_by held link (Some true) e = inl refl
+  put_by held link (Some false) e = absurd (omega (arith, e))
+
+  module _ (plain : plains file key_file act r.old o) (held : Held) (key : KeyState) (draft : Draft) (opened : IsOpened plans file key_file r.old held key draft)
+      (is : o ≡ signed_outcome key_file key (posted_outcome file held (link_by key draft))) where
+    abbrev link : Link
+    link = link_by key draft
+
+    replaces : Replaces file o.steps
+    replaces =
+        let status : (posted_outcome file held link).status ≡ 0 = sym (ap (λ (x : Outcome). x.status) is) ∙ sym ends ∙ zero in
+        subst (λ (x : Outcome). Replaces file x.steps) (sym is) (inr (put_by held link (found_text held link) status))
+
+    given : IsAuthoredText plans file key_file r.old (text link)
+    given = record {
+      held = held;
+      key = key;
+      draft = draft;
+      in_file = subst (λ (f : Option (List ℕ)). FindsTeam f (holds held)) (sym opened.there) opened.in_file;
+      in_key_file = subst (λ (f : Option (List ℕ)). FindsKey f (holds key)) (sym opened.key_there) opened.is_key;
+      planned = opened.planned;
+      is_text = refl;
+    }
+
+    sound : (h : Held) (s : KeyState) (p : Planned) → IsHeld h.team h.links → IsKeyState s → plans h s p → IsSound h s p
+    sound h s p is_held range planned = plain_sound act r.old.moment (words_right words) plain.0 h s is_held range p planned
+
+    text_valid : IsValidText held.team (text link)
+    text_valid = (link, signed_valid held key draft opened.is_key.range opened.leaf (sound held key (Writes draft) opened.in_file.file.held opened.is_key.range opened.planned))
+
+    signed_put : IsPut public_of r file
+    signed_put =
+        let there : HoldsTeam r.old.files file held = (opened.bytes, opened.there, opened.in_file.file) in
+        let grown = authored_grows file_once key_once plans file key_file r.old file o o.steps [] (sym (append-nil o.steps)) replaces (one_plan act r.old.moment) sound held there plain.1 in
+        record {
+          bytes = text link;
+          held = grown.0;
+          given = (
+            record { outcome = o; does = does; cut = record { first = o.steps; rest = []; whole = sym (append-nil o.steps); told = left }; replaced = replaces },
+            (Plain file key_file act, words, (refl, given)),
+          );
+          in_file = subst (λ (m : FileMap). HoldsTeam m file grown.0) (sym (same_files r.new (after o.steps r.old) left)) grown.1;
+          valid = subst (λ (t : Name). IsValidText t (text link)) (sym grown.2.team) text_valid;
+          has = (grown.2.texts (text link)).1 (inr ((refl, given), text_valid));
+        }
+
+  by_signing : plains file key_file act r.old o → IsRefused o ⊎ IsSigned plans file key_file r.old o → IsPut public_of r file
+  by_signing plain (inl refused) =
+      let same : r.status ≡ refused.0 = ends ∙ ap (λ (x : Outcome). x.status) refused.3 in
+      let high = refused.2 in absurd (omega (arith, same, high, zero))
+  by_signing plain (inr (held, key, draft, opened, is)) = signed_put plain held key draft opened is
+
+pub plain_done : FileIsReadOnce → KeyIsSpelledOnce → PlainIsDone
+plain_done file_once key_once public_of r file key_file act is words zero =
+    let ran = is.done r.old (told_known r.old) (omega (arith, zero)) in
+    let does = does_of public_of r.words (Some (Plain file key_file act)) words r.old ran.0 ran.1 in
+    by_signing file_once key_once public_of r file key_file act words zero ran.0 ran.1 ran.2 ran.3 does (signed_or (plain_plan act r.old.moment) file key_file r.old ran.0 does.1)
 
 pub show_after : FileIsReadOnce → TextIsOfSet → RunsLeaveUnion → ShowAfterRuns
 show_after file_once of_set union public_of files runs r name old are there apart fits is words low =

@@ -1,11 +1,11 @@
 //! Laws on what runs do, by the clauses of `run`. The functions do nothing.
-ghost use Rattle.team_run.specs.ManyRuns.{MakeBeginsTeam, MergeIsDone, RunsInAnyOrder, RunsLeaveUnion, ShowAfterRuns, ShowPrintsTeam, TeamsAreBegun};
+ghost use Rattle.team_run.specs.ManyRuns.{MakeBeginsTeam, MergeIsDone, PlainIsDone, RunsInAnyOrder, RunsLeaveUnion, ShowAfterRuns, ShowPrintsTeam, TeamsAreBegun};
 ghost use Rattle.team_run.specs.Serving.{ServedEndWell};
 
 use key_commands::made_is_held;
 use link_intake::merges_in_any_order;
 use link_text::link_is_spelled_once;
-use lms_keep::new_key_has_a_file;
+use lms_keep::{key_is_spelled_once, new_key_has_a_file};
 use team_files::{bundle_is_read_once, file_is_read_once};
 use team_model::text_is_of_set;
 
@@ -22,6 +22,7 @@ pub fn runs_leave_union()
     link_is_spelled_once();
     file_is_read_once();
     bundle_is_read_once();
+    key_is_spelled_once();
 }
 
 /// Two files of one team to which runs gave the same valid texts, those that stood in them at first included, hold the same bytes.
@@ -49,6 +50,14 @@ pub fn teams_are_begun()
 pub fn merge_is_done()
     ensures { MergeIsDone }
 {}
+
+/// A run of `plain` that ended with 0 put a link into the team file.
+pub fn plain_is_done()
+    ensures { PlainIsDone }
+{
+    file_is_read_once();
+    key_is_spelled_once();
+}
 
 /// `show` prints the team of the links whose file it finds.
 pub fn show_prints_team()

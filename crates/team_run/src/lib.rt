@@ -8,11 +8,12 @@
 mod laws;
 mod running;
 
+pub use author_commands::run_plain;
 pub use exchange_commands::run_merge;
 pub use key_commands::{run_make, run_newkey};
 pub use laws::{
-    make_begins_team, merge_is_done, runs_in_any_order, runs_leave_union, served_end_well,
-    show_after_runs, show_prints_team, teams_are_begun,
+    make_begins_team, merge_is_done, plain_is_done, runs_in_any_order, runs_leave_union,
+    served_end_well, show_after_runs, show_prints_team, teams_are_begun,
 };
-pub use report_commands::run_show;
+pub use report_commands::{run_heads, run_log, run_show, run_why};
 pub use running::{run, run_command};

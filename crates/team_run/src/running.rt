@@ -1,19 +1,21 @@
-ghost use Rattle.std.specs.Prelude.{◌≡◌, ◌≢◌, ◌<◌, map, None, Contains, Err, IfSome, string_bytes, codes};
+ghost use Rattle.std.specs.Prelude.{◌≡◌, ◌≢◌, ◌<◌, map, None, Some, Contains, Err, IfSome, string_bytes, codes};
 ghost use Rattle.outcomes.specs.Seeing.{contents_of, counts_of};
 ghost use Rattle.outcomes.specs.Ending.{IsCaused, Runs, answer_of};
-ghost use Rattle.team_words.specs.Words.{command_of};
-ghost use Rattle.team_run.specs.Running.{does, does_words, statuses_of};
+ghost use Rattle.team_words.specs.Words.{IsCommandOf};
+ghost use Rattle.team_words.specs.declared.command.Command.{Command};
+ghost use Rattle.team_run.specs.Running.{does, does_run, statuses_of};
 ghost use Rattle.team_run.specs.Serving.{IsComplete};
 
 use crate::laws::{
-    make_begins_team, merge_is_done, runs_in_any_order, served_end_well, show_after_runs,
-    teams_are_begun,
+    make_begins_team, merge_is_done, plain_is_done, runs_in_any_order, served_end_well,
+    show_after_runs, teams_are_begun,
 };
+use author_commands::run_plain;
 use exchange_commands::run_merge;
 use key_commands::{run_make, run_newkey};
 use lockboxes::Sealer;
 use outcomes::{Answer, NO_MEMORY, Stop, USAGE, conclude};
-use report_commands::run_show;
+use report_commands::{run_heads, run_log, run_show, run_why};
 use std::alloc::Global;
 use team_words::{Command, command_of};
 use tg_outside::{Clock, Entropy, Files, Sink, Source, StepLedger, Steps};
@@ -32,21 +34,21 @@ pub fn run<F: Files, E: Entropy, C: Clock, I: Source, O: Sink, K: Sealer, L: Ste
     sealer: &K,
     steps: &mut Steps<L>,
 ) -> u8
-    ensures runs { Runs (does_words K.public (command_of (map string_bytes words.now)))
+    ensures runs { Runs (does_run K.public (map string_bytes words.now))
         (contents_of F.files E.left C.moment I.left O.taken files.old entropy.old clock.old input.old out.old)
         (contents_of F.files E.left C.moment I.left O.taken files.new entropy.new clock.new input.new out.new) result }
     ensures cause { IsCaused (counts_of F.faults E.faults I.faults O.faults files.old entropy.old input.old out.old)
         (counts_of F.faults E.faults I.faults O.faults files.new entropy.new input.new out.new) result }
 
     // Whether or not contents are known, 2 comes exactly where the words are no command.
-    ensures usage { command_of (map string_bytes words.now) ≡ None → result < 5 → result ≡ 2 }
-    ensures only_usage { result ≡ 2 → command_of (map string_bytes words.now) ≡ None }
+    ensures usage { IsCommandOf (map string_bytes words.now) None → result < 5 → result ≡ 2 }
+    ensures only_usage { result ≡ 2 → IsCommandOf (map string_bytes words.now) None }
 
-    // A command that gives items ends with 0, 1 or 3, every other one with 0 or 3.
-    ensures statuses { IfSome (command_of (map string_bytes words.now)) (λ command. result < 5 → Contains (statuses_of command) result) }
+    // A command that gives items may end with 1, and one that signs for a team with 4.
+    ensures statuses { (command : Command) → IsCommandOf (map string_bytes words.now) (Some command) → result < 5 → Contains (statuses_of command) result }
 
     // Where contents are known, the named files are as the command needs them, and no count of faults rises, it does all, or memory is short.
-    ensures complete { IsComplete (command_of (map string_bytes words.now))
+    ensures complete { (command : Command) → IsCommandOf (map string_bytes words.now) (Some command) → IsComplete command
         (contents_of F.files E.left C.moment I.left O.taken files.old entropy.old clock.old input.old out.old)
         (counts_of F.faults E.faults I.faults O.faults files.old entropy.old input.old out.old)
         (counts_of F.faults E.faults I.faults O.faults files.new entropy.new input.new out.new) result }
@@ -56,6 +58,7 @@ pub fn run<F: Files, E: Entropy, C: Clock, I: Source, O: Sink, K: Sealer, L: Ste
     make_begins_team();
     teams_are_begun();
     merge_is_done();
+    plain_is_done();
     show_after_runs();
     runs_in_any_order();
     match command_of(alloc, words) {
@@ -99,6 +102,11 @@ pub fn run_command<F: Files, E: Entropy, C: Clock, I: Source, O: Sink, K: Sealer
                 alloc, command, files, entropy, clock, input, out, sealer, steps,
             )
         }
+        Command::Plain { .. } => {
+            run_plain(
+                alloc, command, files, entropy, clock, input, out, sealer, steps,
+            )
+        }
         Command::Merge { .. } => {
             run_merge(
                 alloc, command, files, entropy, clock, input, out, sealer, steps,
@@ -106,6 +114,21 @@ pub fn run_command<F: Files, E: Entropy, C: Clock, I: Source, O: Sink, K: Sealer
         }
         Command::Show { .. } => {
             run_show(
+                alloc, command, files, entropy, clock, input, out, sealer, steps,
+            )
+        }
+        Command::Log { .. } => {
+            run_log(
+                alloc, command, files, entropy, clock, input, out, sealer, steps,
+            )
+        }
+        Command::Heads { .. } => {
+            run_heads(
+                alloc, command, files, entropy, clock, input, out, sealer, steps,
+            )
+        }
+        Command::Why { .. } => {
+            run_why(
                 alloc, command, files, entropy, clock, input, out, sealer, steps,
             )
         }
