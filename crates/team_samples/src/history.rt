@@ -36,7 +36,7 @@ pub struct History {
 
 impl History {
     // Adds a link after those that are there.
-    fn add(&mut self, text: Bytes) -> Result<(), Memory> {
+    pub(crate) fn add(&mut self, text: Bytes) -> Result<(), Memory> {
         self.names.push(name_of(text.as_slice()))?;
         self.texts.push(text)?;
         Ok(())
@@ -99,28 +99,20 @@ impl Authors {
     ) -> Result<Bytes, SampleFault> {
         let (user, key) = self.author(n);
         let mut body = head_of(alloc, team, parents)?;
-        body.append(b"user ")?;
-        body.append(user)?;
-        body.append(b"\nkey ")?;
-        write_base64(&mut body, key.public().as_slice())?;
-        body.append(b"\ntime ")?;
-        write_decimal(&mut body, n)?;
-        body.append(b"\nact ")?;
-        body.append(act.as_slice())?;
-        body.append(b"\n")?;
+        add_entry(&mut body, user, key, n, act)?;
         sign(alloc, key, (n % 32) as u32, body.as_slice())
     }
 
     // The act of the link of this number, with so many parents: the one that is drawn, but for the first, and for joins.
     fn act(&self, alloc: Global, n: u64, parents: usize, drawn: usize) -> Result<Bytes, Memory> {
         if n == 1 {
-            return newcomer(alloc, &self.bo);
+            return newcomer(alloc, b"bo", &self.bo);
         }
         if parents == 3 {
             return Bytes::from_slice(alloc, b"join");
         }
         match drawn {
-            0 => newcomer(alloc, &self.bo),
+            0 => newcomer(alloc, b"bo", &self.bo),
             1 => new_device(alloc, n),
             2 | 3 => Bytes::from_slice(alloc, b"add_role deck"),
             4 => Bytes::from_slice(alloc, b"remove_role deck"),
@@ -133,9 +125,11 @@ impl Authors {
     }
 }
 
-// What adds bo with this key.
-fn newcomer(alloc: Global, key: &Tree) -> Result<Bytes, Memory> {
-    let mut act = Bytes::from_slice(alloc, b"add_member bo ")?;
+// What adds a user with this key.
+pub(crate) fn newcomer(alloc: Global, user: &[u8], key: &Tree) -> Result<Bytes, Memory> {
+    let mut act = Bytes::from_slice(alloc, b"add_member ")?;
+    act.append(user)?;
+    act.append(b" ")?;
     write_base64(&mut act, key.public().as_slice())?;
     act.append(b" ")?;
     write_hex(&mut act, &[0x66; 32])?;
@@ -153,13 +147,14 @@ fn new_device(alloc: Global, n: u64) -> Result<Bytes, Memory> {
     Ok(act)
 }
 
-fn title(alloc: Global, n: u64) -> Result<Bytes, Memory> {
+pub(crate) fn title(alloc: Global, n: u64) -> Result<Bytes, Memory> {
     let mut act = Bytes::from_slice(alloc, b"title Title ")?;
     write_decimal(&mut act, n)?;
     Ok(act)
 }
 
-fn root_body(alloc: Global, key: &Tree, time: u64) -> Result<Bytes, Memory> {
+// The body of the root, by which ann founds the team.
+pub(crate) fn root_body(alloc: Global, key: &Tree, time: u64) -> Result<Bytes, Memory> {
     let mut text = Bytes::from_slice(alloc, b"team-link 1\nteam -\nuser ann\nkey ")?;
     write_base64(&mut text, key.public().as_slice())?;
     text.append(b"\ntime ")?;
@@ -189,7 +184,11 @@ fn draw_parents(
 }
 
 // The lines that stand before the author.
-fn head_of(alloc: Global, team: &LinkName, parents: &[LinkName]) -> Result<Bytes, Memory> {
+pub(crate) fn head_of(
+    alloc: Global,
+    team: &LinkName,
+    parents: &[LinkName],
+) -> Result<Bytes, Memory> {
     let mut text = Bytes::from_slice(alloc, b"team-link 1\nteam ")?;
     write_hex(&mut text, team.as_slice())?;
     text.append(b"\n")?;
@@ -199,6 +198,25 @@ fn head_of(alloc: Global, team: &LinkName, parents: &[LinkName]) -> Result<Bytes
         text.append(b"\n")?;
     }
     Ok(text)
+}
+
+// Adds the lines from the author to the act.
+pub(crate) fn add_entry(
+    body: &mut Bytes,
+    user: &[u8],
+    key: &Tree,
+    time: u64,
+    act: &Bytes,
+) -> Result<(), Memory> {
+    body.append(b"user ")?;
+    body.append(user)?;
+    body.append(b"\nkey ")?;
+    write_base64(body, key.public().as_slice())?;
+    body.append(b"\ntime ")?;
+    write_decimal(body, time)?;
+    body.append(b"\nact ")?;
+    body.append(act.as_slice())?;
+    body.append(b"\n")
 }
 
 /// The places below a count, but for one that is left out, in ascending order.
