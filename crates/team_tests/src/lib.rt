@@ -1,5 +1,5 @@
 //! Tests of what stands between words and commands, of what no clause says or where values come from outside: links, bundles,
-//! graphs, states, replicas and what is shown of them. Tables of cases are data of `team_cases`.
+//! graphs, replicas and what is shown of them. Tables of cases are data of `team_cases`.
 #![tactic(auto)]
 
 #[cfg(test)]
@@ -9,10 +9,6 @@ mod graphs;
 #[cfg(test)]
 mod histories;
 #[cfg(test)]
-mod keys;
-#[cfg(test)]
 mod reef;
-#[cfg(test)]
-mod states;
 #[cfg(test)]
 mod undoing;

@@ -3,7 +3,7 @@ use acts::InviteKind;
 use key_reach::KeyTable;
 use std::alloc::Global;
 use std::test::Fail;
-use team_state::{Device, Invitation, Member, TeamState};
+use team_state::{Device, Invitation, TeamState};
 use tg_text::{DeviceId, Items, RoleName, Scope, Title, UserName};
 
 // A team of ann, who is an admin and has a device.
@@ -11,7 +11,7 @@ fn crew(alloc: Global) -> Result<TeamState, Fail> {
     let user = UserName::read(b"ann").ok_or("no user")?;
     let roles = Items::from_vec(Vec::from_slice(alloc, &[RoleName::admin()])?);
     let mut state = TeamState::new(alloc)?;
-    state.put_member(Member { user, roles })?;
+    state.put_roles(user, roles)?;
     state.put_role(RoleName::admin())?;
     state.put_device(Device {
         id: DeviceId([1; 32]),

@@ -5,7 +5,7 @@ ghost use Rattle.key_reach.specs.Keys.{is_device};
 use key_reach::{Debt, debts, entitled, lacks, reach, tainted};
 use std::alloc::Global;
 use std::test::Fail;
-use team_state::{Device, Member, TeamState};
+use team_state::{Device, TeamState};
 use tg_text::{BoxLine, Bytes, DeviceId, Items, KeyId, Scope, Title, UserName};
 
 fn device(user: UserName, number: u8, listed: bool) -> Device {
@@ -65,7 +65,7 @@ fn two_devices(alloc: Global, user: UserName) -> Result<TeamState, Fail> {
     let mut state = TeamState::new(alloc)?;
     state.put_title(Title::read(b"Reef crew").ok_or("no title")?)?;
     let roles = Items::new(alloc);
-    state.put_member(Member { user, roles })?;
+    state.put_roles(user, roles)?;
     state.put_device(device(user, 1, true))?;
     state.put_device(device(user, 2, true))?;
     state.put_key(team_key())?;
