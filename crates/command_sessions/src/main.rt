@@ -23,7 +23,8 @@
 //!
 //! The links of the data are of a team whose links ann's key signs: types 5 and 3, the id of sixteen bytes 0x11, the seed of 32
 //! bytes 0x22. `team_cases` signs them again. What is printed, and the names in it, were computed by another program; the files
-//! `roles.team` and `devices.team` were made by it too.
+//! `roles.team`, `devices.team` and `branches.team` were made by it too, and so were the links that are merged into the last. The
+//! key files `*_small.key` are of types 5 and 3, so that they sign fast.
 #![tactic(auto)]
 
 mod expected;
