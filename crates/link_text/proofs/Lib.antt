@@ -1,8 +1,10 @@
 pub mod Ascending
+pub mod Boxes
+pub mod Fields
 pub mod Lines
 pub mod OfTeam
-pub mod Parents
 pub mod Proved
+pub mod Repeated
 pub mod Signed
 pub mod Texts
 pub mod Written

@@ -1,5 +1,6 @@
 pub mod Drafts
 pub mod Faults
+pub mod KeyRanges
 pub mod LinkText
 pub mod ReadYet
 pub mod Takes

@@ -7,13 +7,14 @@ use Rattle.lms_tree.specs.Verifying.{verifies}
 use Rattle.team_sets.specs.Names.{Name, name_lt}
 use Rattle.tg_text.specs.KeySpelling.{spell_key_id}
 use Rattle.tg_text.specs.Limits.{most_link_bytes}
-use Rattle.tg_text.specs.Spelling.{spell_decimal, spell_hex, spell_base64, line_of, is_user_name, AreBytes, IsHash, IsPublicKey}
+use Rattle.tg_text.specs.Spelling.{spell_decimal, spell_hex, spell_base64, spaced, line_of, is_user_name, AreBytes, IsHash, IsPublicKey}
 use Rattle.tg_text.specs.declared.keys.KeyId.{KeyId}
 use Rattle.tg_text.specs.declared.keys.BoxLine.{BoxLine}
 use Rattle.acts.specs.ActText.{act_words, IsActInRange, IsFound}
 use Rattle.acts.specs.declared.entry.Act.{Act}
 use Rattle.team_model.specs.declared.terms.Link.{Link}
-use Rattle.link_text.specs.ReadYet.{AreKeyLines, is_read_yet}
+use Rattle.link_text.specs.KeyRanges.{AreKeyLines}
+use Rattle.link_text.specs.ReadYet.{is_read_yet}
 
 -- The lines of a link, each a list of fields.
 abbrev pub first_line : List (List ℕ)
@@ -44,8 +45,15 @@ act_line a = line_of (codes "act" ∷ act_words a)
 abbrev pub new_line : KeyId → List ℕ
 new_line k = line_of (codes "new" ∷ spell_key_id k ∷ [])
 
+-- The key that a box is sealed to, that whose secret it has, and the sealed bytes.
+abbrev pub box_words : BoxLine → List (List ℕ)
+box_words b = spell_key_id b.to ∷ spell_key_id b.of ∷ spell_base64 b.bytes ∷ []
+
+abbrev pub spell_box : BoxLine → List ℕ
+spell_box b = spaced (box_words b)
+
 abbrev pub box_line : BoxLine → List ℕ
-box_line b = line_of (codes "box" ∷ spell_key_id b.to ∷ spell_key_id b.of ∷ spell_base64 b.bytes ∷ [])
+box_line b = line_of (codes "box" ∷ box_words b)
 
 abbrev pub sign_line : List ℕ → List ℕ
 sign_line s = line_of (codes "sign" ∷ spell_base64 s ∷ [])

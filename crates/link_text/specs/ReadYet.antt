@@ -1,9 +1,8 @@
--- What a link may have so far: all acts but those on invitations, and no key lines. Others are right texts, and no link has one.
+-- Which acts a link may have so far: all but those on invitations. Texts with others are right, and no link has one.
 --
 -- To let links have a further act, a clause here and an arm in `rules` say so. Before that `team_model` gets its row, its effect,
 -- and what it strikes and brings in, with the code of `team_reducer` that the contracts tie to them. The act's text costs nothing.
-use Rattle.std.specs.Prelude.{◌≡◌, Bool, true, false, []}
-use Rattle.tg_text.specs.declared.keys.KeyLines.{KeyLines}
+use Rattle.std.specs.Prelude.{Bool, true, false}
 use Rattle.acts.specs.declared.entry.Act.{Act}
 use Rattle.acts.specs.declared.entry.Act.TheVariants.{Found, AddMember, RemoveMember, AddRole, RemoveRole, GiveRole, TakeRole, AddDevice, RemoveDevice, Rotate, Seal, Title, Join}
 
@@ -23,7 +22,3 @@ is_read_yet Seal = true
 is_read_yet (Title title) = true
 is_read_yet Join = true
 is_read_yet _ = false
-
--- The lines of keys that are read yet are none.
-abbrev pub AreKeyLines : KeyLines → Type 0
-AreKeyLines lines = (lines.news ≡ []) × (lines.boxes ≡ [])

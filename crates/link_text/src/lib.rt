@@ -8,11 +8,12 @@
 //! A new act costs a clause in `specs/ReadYet.antt`, which says what links may have so far, and an arm in `rules`; `acts`
 //! reads and spells it. A new kind of line costs a reader of two lines in `next`, whose proof is one call of `takes`, and a
 //! step where the lines stand in their order: in `body`, in `read_fields`, and in the lemmas on the parts of a text. A kind
-//! that may be repeated costs a loop as that of the parents.
+//! that may be repeated costs a loop as that of the parents, and what `Fields` of the proofs says of its field.
 #![tactic(auto)]
 
 mod draft;
 mod fault;
+mod key_lines;
 mod laws;
 mod naming;
 mod next;

@@ -5,7 +5,7 @@ ghost use Rattle.tg_text.specs.Reading.{Reads};
 ghost use Rattle.tg_text.specs.Spelling.{AreBytes, IsHash, IsPublicKey, has_newline, is_user_name};
 ghost use Rattle.acts.specs.ActText.{IsActInRange};
 ghost use Rattle.link_text.specs.LinkText.{IsTeam, team_field, team_line, prev_line, user_line, key_line, time_line, act_line, sign_line};
-ghost use Rattle.link_text.specs.Takes.{GivesAndLeaves, HasNoParent, Takes};
+ghost use Rattle.link_text.specs.Takes.{HasNoParent, Takes, TakesAll};
 
 use crate::fault::LineFault;
 use acts::Act;
@@ -42,8 +42,7 @@ fn read_team(field: &[u8]) -> Option<Option<LinkName>>
 
 // The lines of parents, up to the first line that is none.
 pub(crate) fn next_parents(alloc: Global, lines: &mut Lines) -> Result<Items<LinkName>, LineFault>
-    ensures found { IfOk result (λ names. AllByRecursion IsHash names × (lines.old ≡ flat_map prev_line names ++ lines.new)) }
-    ensures only { (names : List (List ℕ)) (rest : List ℕ) → AllByRecursion IsHash names → HasNoParent rest → lines.old ≡ flat_map prev_line names ++ rest → GivesAndLeaves names rest lines.new result }
+    ensures { TakesAll (AllByRecursion IsHash) (flat_map prev_line) HasNoParent lines.old lines.new result }
 {
     let mut parents = Items::new(alloc);
     'each: loop {

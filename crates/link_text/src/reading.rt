@@ -6,6 +6,7 @@ ghost use Rattle.link_text.specs.LinkText.{Reads, Spells};
 ghost use Rattle.team_model.specs.declared.terms.Link.{Link};
 
 use crate::fault::{LineFault, TextFault};
+use crate::key_lines::next_key_lines;
 use crate::naming::name_of;
 use crate::next::{
     next_act, next_key, next_parents, next_signature, next_team, next_time, next_user,
@@ -14,7 +15,7 @@ use crate::rules::keeps_rules;
 use acts::{Entry, device_of};
 use std::alloc::Global;
 use team_model::Link;
-use tg_text::{Items, KeyLines, Lines, LinkName, MOST_LINK_BYTES, strip_front};
+use tg_text::{Lines, LinkName, MOST_LINK_BYTES, strip_front};
 
 /// The link that a text spells. Whether its signature verifies is not asked.
 pub fn read_text(alloc: Global, bytes: &[u8]) -> Result<Link, TextFault>
@@ -61,6 +62,7 @@ fn read_fields(alloc: Global, bytes: &[u8], name: LinkName) -> Result<Link, Line
     let key = next_key(&mut lines)?;
     let time = next_time(&mut lines)?;
     let act = next_act(alloc, &mut lines)?;
+    let key_lines = next_key_lines(alloc, &mut lines)?;
     let signature = next_signature(alloc, &mut lines)?;
     if !lines.rest().is_empty() {
         return Err(LineFault::BadText);
@@ -70,10 +72,7 @@ fn read_fields(alloc: Global, bytes: &[u8], name: LinkName) -> Result<Link, Line
         device: device_of(&key),
         time,
         act,
-        lines: KeyLines {
-            news: Items::new(alloc),
-            boxes: Items::new(alloc),
-        },
+        lines: key_lines,
     };
     Ok(Link {
         team,

@@ -1,8 +1,8 @@
 //! Writing links: the body, and the line of the signature after it.
 ghost use Rattle.std.specs.Prelude.{◌≡◌, ◌++◌, flat_map, IfOk, OnOk};
 ghost use Rattle.link_text.specs.Drafts.{draft_body};
-ghost use Rattle.link_text.specs.LinkText.{first_line, team_line, prev_line, user_line, key_line, time_line, act_line, sign_line, text};
-ghost use Rattle.link_text.specs.ReadYet.{AreKeyLines};
+ghost use Rattle.link_text.specs.LinkText.{first_line, team_line, prev_line, user_line, key_line, time_line, act_line, new_line, box_line, sign_line, text};
+ghost use Rattle.link_text.specs.Takes.{key_lines};
 ghost use Rattle.tg_text.specs.Spelling.{line_of};
 
 use crate::draft::Draft;
@@ -10,13 +10,12 @@ use acts::{Act, Entry};
 use std::alloc::Global;
 use team_model::Link;
 use tg_text::{
-    Bytes, LinkName, Memory, PublicKey, write_base64_line, write_decimal_line, write_hex_line,
-    write_text_line,
+    BoxLine, Bytes, KeyId, KeyLines, LinkName, Memory, PublicKey, write_base64, write_base64_line,
+    write_decimal_line, write_hex_line, write_key_id, write_text_line,
 };
 
 /// The body of a link that is to be signed, which is what its signature is over.
 pub fn body_of(alloc: Global, draft: &Draft) -> Result<Bytes, Memory>
-    requires { AreKeyLines draft.now.entry.lines }
     ensures { IfOk result (λ bytes. bytes ≡ draft_body draft.now) }
 {
     let mut out = Bytes::new(alloc);
@@ -36,7 +35,6 @@ pub fn finish(alloc: Global, body: &[u8], signature: &[u8]) -> Result<Bytes, Mem
 
 /// The text of a link.
 pub fn write_link(alloc: Global, link: &Link) -> Result<Bytes, Memory>
-    requires { AreKeyLines link.now.entry.lines }
     ensures { IfOk result (λ bytes. bytes ≡ text link.now) }
 {
     let mut out = Bytes::new(alloc);
@@ -75,12 +73,13 @@ fn write_parents(out: &mut Bytes, prev: &[LinkName]) -> Result<(), Memory>
 
 // The lines from that of the user up to the signature.
 fn write_entry(out: &mut Bytes, key: &PublicKey, entry: &Entry) -> Result<(), Memory>
-    ensures { OnOk result (out.new ≡ out.old ++ (user_line entry.now.user ++ (key_line key.now ++ (time_line entry.now.time ++ act_line entry.now.act)))) }
+    ensures { OnOk result (out.new ≡ out.old ++ (user_line entry.now.user ++ (key_line key.now ++ (time_line entry.now.time ++ (act_line entry.now.act ++ key_lines entry.now.lines))))) }
 {
     write_text_line(out, b"user", entry.user.as_slice())?;
     write_base64_line(out, b"key", key.as_slice())?;
     write_decimal_line(out, b"time", entry.time)?;
-    write_act(out, &entry.act)
+    write_act(out, &entry.act)?;
+    write_key_lines(out, &entry.lines)
 }
 
 fn write_act(out: &mut Bytes, act: &Act) -> Result<(), Memory>
@@ -88,5 +87,50 @@ fn write_act(out: &mut Bytes, act: &Act) -> Result<(), Memory>
 {
     out.append(b"act ")?;
     act.write(out)?;
+    out.append(b"\n")
+}
+
+fn write_key_lines(out: &mut Bytes, lines: &KeyLines) -> Result<(), Memory>
+    ensures { OnOk result (out.new ≡ out.old ++ key_lines lines.now) }
+{
+    write_news(out, lines.news.as_slice())?;
+    write_boxes(out, lines.boxes.as_slice())
+}
+
+fn write_news(out: &mut Bytes, news: &[KeyId]) -> Result<(), Memory>
+    ensures { OnOk result (out.new ≡ out.old ++ flat_map new_line news.now) }
+{
+    for key in news {
+        write_new(out, key)?;
+    }
+    Ok(())
+}
+
+fn write_new(out: &mut Bytes, key: &KeyId) -> Result<(), Memory>
+    ensures { OnOk result (out.new ≡ out.old ++ new_line key.now) }
+{
+    out.append(b"new ")?;
+    write_key_id(out, key)?;
+    out.append(b"\n")
+}
+
+fn write_boxes(out: &mut Bytes, boxes: &[BoxLine]) -> Result<(), Memory>
+    ensures { OnOk result (out.new ≡ out.old ++ flat_map box_line boxes.now) }
+{
+    for line in boxes {
+        write_box(out, line)?;
+    }
+    Ok(())
+}
+
+fn write_box(out: &mut Bytes, line: &BoxLine) -> Result<(), Memory>
+    ensures { OnOk result (out.new ≡ out.old ++ box_line line.now) }
+{
+    out.append(b"box ")?;
+    write_key_id(out, &line.to)?;
+    out.append(b" ")?;
+    write_key_id(out, &line.of)?;
+    out.append(b" ")?;
+    write_base64(out, line.bytes.as_slice())?;
     out.append(b"\n")
 }

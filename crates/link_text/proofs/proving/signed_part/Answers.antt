@@ -1,4 +1,4 @@
-use Rattle.std.proofs.Common.{◌+◌, ◌*◌, length, ap, ◌∙◌, arith}
+use Rattle.std.proofs.Common.{◌+◌, ◌*◌, ap, ◌∙◌, arith}
 use Rattle.std.specs.Int.{div_ceil}
 use Rattle.link_text.specs.LinkText.{body, sign_line, text}
 use Rattle.link_text.proofs.Signed.{cut_front, line_fits, line_small, sign_length}
