@@ -10,6 +10,7 @@ pub mod Marks
 pub mod Meeting
 pub mod Members
 pub mod MetScopes
+pub mod Nothing
 pub mod Numbered
 pub mod Orders
 pub mod Runs

@@ -10,8 +10,8 @@ use crate::table::KeyTable;
 use std::alloc::Global;
 use tg_text::{KeyId, Memory, Scope};
 
-// The current keys of the live scopes, in order.
-pub(crate) fn current_keys<V: KeyTable>(alloc: Global, view: &V) -> Result<Vec<KeyId>, Memory>
+/// The current keys of the live scopes, in order.
+pub fn current_keys<V: KeyTable>(alloc: Global, view: &V) -> Result<Vec<KeyId>, Memory>
     ensures keys { IfOk result (λ keys. keys.items ≡ words.current_keys (V.table view.now)) }
     ensures ordered { IfOk result (λ _. IsOrdered (V.table view.now)) }
 {

@@ -24,10 +24,12 @@ mod table;
 mod unreached;
 mod walking;
 
+pub use current::current_keys;
 pub use debt::Debt;
 pub use entitling::entitled;
 pub use lacking::lacks;
 pub use laws::{debts_without_keys, entitled_is_least, reach_is_least, worked_keys};
+pub use lists::{is_member, ordered};
 pub use owing::debts;
-pub use reaching::{reach, tainted};
+pub use reaching::{is_device, reach, tainted};
 pub use table::KeyTable;

@@ -8,8 +8,8 @@ ghost use Rattle.key_reach.specs.Lists.{IsListOf, pair_cmp};
 use std::alloc::Global;
 use tg_text::{KeyId, Memory, Scope};
 
-// The members of a list in ascending order, each once.
-pub(crate) fn ordered<T: Ord + Copy>(alloc: Global, members: &[T]) -> Result<Vec<T>, Memory>
+/// The members of a list in ascending order, each once.
+pub fn ordered<T: Ord + Copy>(alloc: Global, members: &[T]) -> Result<Vec<T>, Memory>
     ensures { IfOk result (λ list. IsListOf T.cmp members.now list.items) }
 {
     let mut list = Vec::from_slice(alloc, members)?;
@@ -18,8 +18,8 @@ pub(crate) fn ordered<T: Ord + Copy>(alloc: Global, members: &[T]) -> Result<Vec
     Ok(list)
 }
 
-// Whether a value is one of a list in ascending order.
-fn is_member<T: Ord>(list: &[T], value: &T) -> bool
+/// Whether a value is one of a list in ascending order.
+pub fn is_member<T: Ord>(list: &[T], value: &T) -> bool
     requires { IsStrictlySortedBy T.cmp list.now }
     ensures { result ≡ has (eq_by_cmp T.cmp) list.now value.now }
 {

@@ -13,6 +13,9 @@ use tg_text::{BoxLine, KeyId, Memory, Scope};
 pub fn reach(alloc: Global, boxes: &[BoxLine], from: &[KeyId]) -> Result<Vec<KeyId>, Memory>
     ensures { IfOk result (λ keys. IsListOf key_cmp (words.reach boxes.now from.now) keys.items) }
 {
+    if from.is_empty() {
+        return Ok(Vec::new(alloc));
+    }
     let graph = box_graph(alloc, boxes, from)?;
     let mut reached = NumberSet::new(alloc, graph.nodes.as_slice().len())?;
     keys_from(alloc, &graph, &mut reached, from)
@@ -58,8 +61,8 @@ fn push_unlawful<V: KeyTable>(leaked: &mut Vec<KeyId>, view: &V) -> Result<(), M
     Ok(())
 }
 
-// Whether a scope is a device's.
-pub(crate) fn is_device(scope: &Scope) -> bool
+/// Whether a scope is a device's.
+pub fn is_device(scope: &Scope) -> bool
     ensures { result ≡ words.is_device scope.now }
 {
     matches!(scope, Scope::Device(_))
