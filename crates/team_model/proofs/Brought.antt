@@ -27,6 +27,8 @@ use Rattle.team_model.specs.declared.terms.Link.{Link}
 use Rattle.team_model.specs.declared.terms.Member.{Member}
 use Rattle.team_model.specs.declared.terms.Reason.{Reason}
 use Rattle.team_model.specs.declared.terms.Reason.TheVariants.{NotListed}
+use Rattle.team_model.specs.KeyLines.{lined}
+use Rattle.team_model.proofs.Lined.{lined-is}
 use Rattle.team_model.proofs.PastTeams.{team-past}
 
 -- a condition that doesn't hold isn't the reason
@@ -138,8 +140,8 @@ module _ (device_of : List ℕ → Name) where
   users : (s : State) (e : Entry) (u : Name) → lists_user (after_by device_of s e) u ≡ true → (lists_user s u ≡ true) ⊎ (brings_user e u ≡ true)
   users s e u h = go (refusal_by device_of s e) refl h
     where
-      go : (o : Option Reason) → refusal_by device_of s e ≡ o → lists_user (cond (is_none o) (effect_by device_of s e e.act) s) u ≡ true → (lists_user s u ≡ true) ⊎ (brings_user e u ≡ true)
-      go None is h = by_effect s e u e.act is h
+      go : (o : Option Reason) → refusal_by device_of s e ≡ o → lists_user (cond (is_none o) (lined (effect_by device_of s e e.act) e) s) u ≡ true → (lists_user s u ≡ true) ⊎ (brings_user e u ≡ true)
+      go None is h = by_effect s e u e.act is (subst (λ t. lists_user t u ≡ true) (lined-is (effect_by device_of s e e.act) e) h)
       go (Some r) is h = inl h
 
   pub team_brings_in : BringIn (rules_by device_of)

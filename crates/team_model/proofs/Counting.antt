@@ -4,7 +4,7 @@ use Rattle.std.specs.List.{list_any}
 use Rattle.std.specs.Option.{option_map_or}
 use Rattle.std.specs.Cmp.Lexicographic.{nat_list_eq_equiv}
 use Rattle.std.proofs.lemmas.Bool.{false≢true, and_from, and_parts, not-true, or_parts}
-use Rattle.team_sets.specs.Names.{Name, same_name, has_name}
+use Rattle.team_sets.specs.Names.{has_name}
 use Rattle.team_sets.specs.Members.{IsIn}
 use Rattle.team_sets.specs.OrderLaws.{NamesDiffer}
 use Rattle.team_sets.specs.Settlement.{Decided, stands, struck, lost}
@@ -18,7 +18,7 @@ use Rattle.team_sets.proofs.Agree.{any_in}
 use Rattle.team_model.specs.Strikes.{is_striking}
 use Rattle.team_model.specs.Counting.{is_counting}
 use Rattle.team_model.specs.CountingLaws.{CountsRightly}
-use Rattle.team_model.specs.Judging.{Rules, name_of, prev_of, order_of, is_senior, strikers, standing_strikers, stays, strikes_among, fold_team, lawful, resolved, unlawful_reason, before_turn, at_turn, lawful_verdict, striker_verdict, decision_in, first_striker, verdict}
+use Rattle.team_model.specs.Judging.{Rules, name_of, prev_of, order_of, is_senior, strikers, standing_strikers, stays, strikes_among, fold_team, lawful, unlawful_reason, before_turn, at_turn, lawful_verdict, striker_verdict, decision_in, first_striker, verdict}
 use Rattle.team_model.specs.declared.terms.Link.{Link}
 use Rattle.team_model.specs.declared.terms.Reason.{Reason}
 use Rattle.team_model.specs.declared.terms.Verdict.{Verdict}

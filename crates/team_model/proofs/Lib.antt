@@ -1,8 +1,11 @@
 pub mod Brought
 pub mod Counting
+pub mod FullBoxes
 pub mod Keyless
+pub mod Lined
 pub mod OfOrder
 pub mod PastTeams
+pub mod Quiet
 pub mod Resolved
 pub mod Shown
 pub mod Teams

@@ -1,10 +1,10 @@
 -- Where none of the lawful links strikes, all of them stay.
-use Rattle.std.proofs.Common.{◌≡◌, Bool, true, false, not, ◌&&◌, ◌||◌, cond, List, [], ◌∷◌, filter, refl, ◌∙◌, ap}
+use Rattle.std.proofs.Common.{◌≡◌, true, false, not, ◌&&◌, ◌||◌, cond, List, [], ◌∷◌, filter, refl, ◌∙◌, ap}
 use Rattle.std.specs.List.{AllByRecursion}
 use Rattle.team_sets.specs.Settlement.{standing}
 use Rattle.team_model.specs.Strikes.{is_striking}
 use Rattle.team_model.specs.JudgingLaws.{IsHarmless}
-use Rattle.team_model.specs.Judging.{Rules, is_senior, strikes_among, strikers, standing_strikers, stays, resolved_from}
+use Rattle.team_model.specs.Judging.{Rules, is_senior, strikes_among, standing_strikers, stays, resolved_from}
 use Rattle.team_model.specs.declared.terms.Link.{Link}
 
 pub no_strikers : (links lawful xs : List Link) → AllByRecursion IsHarmless xs → filter (λ x. is_striking x.entry.act) xs ≡ []

@@ -1,15 +1,13 @@
 -- Worked rows of the act table. Names of one byte are enough, and here the id of a device is its key.
-use Rattle.std.specs.Prelude.{◌≡◌, ℕ, true, false, List, [], ◌∷◌, ◌++◌, fold, map, replicate, codes, Option, Some, None}
+use Rattle.std.specs.Prelude.{◌≡◌, ℕ, List, [], ◌∷◌, ◌++◌, fold, map, replicate, codes, Option, Some, None}
 use Rattle.team_sets.specs.Names.{Name}
 use Rattle.acts.specs.declared.entry.Act.{Act}
 use Rattle.acts.specs.declared.entry.Act.TheVariants.{Found, AddMember, RemoveMember, AddRole, RemoveRole, GiveRole, TakeRole, AddDevice, RemoveDevice, Rotate, Seal, Title, Join}
 use Rattle.acts.specs.declared.entry.Entry.{Entry}
-use Rattle.tg_text.specs.declared.keys.KeyId.{KeyId}
 use Rattle.tg_text.specs.declared.keys.Scope.TheVariants.{Team, Role, User}
 use Rattle.team_model.specs.ActTable.{after_by, refusal_by}
 use Rattle.team_model.specs.State.{State, admin, empty_state}
 use Rattle.team_model.specs.Writes.{listed_device, unlisted}
-use Rattle.team_model.specs.declared.terms.Device.{Device}
 use Rattle.team_model.specs.declared.terms.Member.{Member}
 use Rattle.team_model.specs.declared.terms.Reason.{Reason}
 use Rattle.team_model.specs.declared.terms.Reason.TheVariants.{NotListed, NotAdmin, NotYours, Present, Absent, LastAdmin, LastDevice, WasRemoved, TooMany, Reserved, NotEmpty}
@@ -123,6 +121,10 @@ DeviceRow =
     × (refusals crew (by bo (RemoveDevice cy cy) ∷ by ann (RemoveDevice bo cy) ∷ by ann (RemoveDevice cy (32 ∷ [])) ∷ by bo (RemoveDevice bo bo) ∷ by cy (RemoveDevice cy cy) ∷ [])
     ≡ Some NotAdmin ∷ Some Absent ∷ Some Absent ∷ Some LastDevice ∷ None ∷ [])
 
+-- acts that change nothing by themselves
+abbrev pub still_acts : List Entry
+still_acts = by ann (Rotate Team) ∷ by ann Seal ∷ by bo Join ∷ []
+
 -- nobody rotates what isn't live; a key of the team or of a role is an admin's to rotate, and one of a user is his own
 abbrev pub RotationRow : Type 0
 RotationRow =
@@ -130,7 +132,7 @@ RotationRow =
     ≡ Some Absent ∷ Some NotAdmin ∷ Some NotAdmin ∷ Some NotYours ∷ None ∷ None ∷ [])
     × (refusals (record crew { currents = record { scope = Team; generation = 65533; public = [] } ∷ [] }) (by ann (Rotate Team) ∷ []) ≡ None ∷ [])
     × (refusals (record crew { currents = record { scope = Team; generation = 65534; public = [] } ∷ [] }) (by ann (Rotate Team) ∷ []) ≡ Some TooMany ∷ [])
-    × (after_all crew (by ann (Rotate Team) ∷ by ann Seal ∷ by bo Join ∷ []) ≡ crew)
+    × (after_all crew still_acts ≡ crew)
 
 abbrev pub TitleRow : Type 0
 TitleRow = (refusals crew (by bo (Title (codes "Ours")) ∷ by ann (Title (codes "Low tide")) ∷ []) ≡ Some NotAdmin ∷ None ∷ [])

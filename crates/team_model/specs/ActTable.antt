@@ -7,6 +7,7 @@ use Rattle.team_sets.specs.Names.{Name, has_name, same_name}
 use Rattle.tg_text.specs.declared.keys.Scope.{Scope}
 use Rattle.tg_text.specs.declared.keys.Scope.TheVariants.{User}
 use Rattle.key_reach.specs.Keys.{is_live}
+use Rattle.team_model.specs.KeyLines.{lined}
 use Rattle.team_model.specs.KeyTables.{current_key, key_table}
 use Rattle.team_model.specs.Limits.{last_generation, most_devices, most_devices_ever, most_members, most_roles}
 use Rattle.team_model.specs.State.{State, is_empty_state, admin, devices_ever, devices_listed, has_other_device, has_role, is_admin, is_given, is_listed, is_only_admin, lists_user, lists_device, roles_of, was_listed}
@@ -117,8 +118,9 @@ module _ (device_of : List ℕ → Name) where
   effect_by s e (Title title) = with_title s title
   effect_by s e Join = s
 
+  -- the key lines that fit are taken after the act's own effect
   abbrev pub after_by : State → Entry → State
-  after_by s e = if is_none (refusal_by s e) then effect_by s e e.act else s
+  after_by s e = if is_none (refusal_by s e) then lined (effect_by s e e.act) e else s
 
 -- why an entry is refused, if it is
 abbrev pub refusal : State → Entry → Option Reason

@@ -7,6 +7,8 @@ pub mod DebtLaws
 pub mod Examples
 pub mod Judging
 pub mod JudgingLaws
+pub mod KeyLineRows
+pub mod KeyLines
 pub mod KeyTables
 pub mod Limits
 pub mod ShowText

@@ -1,12 +1,14 @@
 -- What `show` prints.
-use Rattle.std.specs.Prelude.{ℕ, ◌-◌, Bool, if◌then◌else◌, List, [], ◌∷◌, ◌++◌, length, filter, codes, flat_map}
+use Rattle.std.specs.Prelude.{ℕ, ◌-◌, Bool, not, if◌then◌else◌, List, [], ◌∷◌, ◌++◌, length, filter, codes, flat_map}
 use Rattle.std.specs.Option.{option_map_or}
 use Rattle.team_sets.specs.Names.{Name, same_name, name_lt, ascending}
+use Rattle.tg_text.specs.declared.keys.KeyId.{KeyId}
 use Rattle.tg_text.specs.KeySpelling.{spell_key_id, spell_scope}
 use Rattle.tg_text.specs.Spelling.{spell_decimal, spell_hex, line_of}
 use Rattle.key_reach.specs.declared.debt.Debt.{Debt}
 use Rattle.key_reach.specs.declared.debt.Debt.TheVariants.{NoKey, Tainted, Unreached}
 use Rattle.key_reach.specs.Debts.{debts}
+use Rattle.key_reach.specs.Keys.{current_keys, is_device}
 use Rattle.team_model.specs.Counting.{counting_links}
 use Rattle.team_model.specs.KeyTables.{key_table}
 use Rattle.team_model.specs.State.{State}
@@ -31,6 +33,16 @@ device_lines s = flat_map (λ d. line_of (codes "device" ∷ d.user ∷ spell_he
 abbrev pub role_lines : State → List ℕ
 role_lines s = flat_map (λ r. line_of (codes "role" ∷ r ∷ [])) s.roles
 
+-- the current keys of the live scopes but devices, in the order of scopes
+abbrev pub shown_keys : State → List KeyId
+shown_keys s = filter (λ k. not (is_device k.scope)) (current_keys (key_table s))
+
+abbrev pub current_key_line : KeyId → List ℕ
+current_key_line k = line_of (codes "key" ∷ spell_key_id k ∷ [])
+
+abbrev pub current_key_lines : State → List ℕ
+current_key_lines s = flat_map current_key_line (shown_keys s)
+
 abbrev pub debt_line : Debt → List ℕ
 debt_line (NoKey s) = line_of (codes "debt" ∷ codes "none" ∷ spell_scope s ∷ [])
 debt_line (Tainted k) = line_of (codes "debt" ∷ codes "tainted" ∷ spell_key_id k ∷ [])
@@ -41,7 +53,7 @@ abbrev pub debt_lines : State → List ℕ
 debt_lines s = flat_map debt_line (debts (key_table s))
 
 abbrev pub state_lines : State → List ℕ
-state_lines s = member_lines s ++ device_lines s ++ role_lines s ++ debt_lines s
+state_lines s = member_lines s ++ device_lines s ++ role_lines s ++ current_key_lines s ++ debt_lines s
 
 abbrev pub show_text : Name → List Link → List ℕ
 show_text t links =

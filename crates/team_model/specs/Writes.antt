@@ -51,6 +51,9 @@ module _ (s : State) where
   abbrev pub with_box : BoxLine → State
   with_box line = record s { boxes = s.boxes ++ line ∷ [] }
 
+  abbrev pub with_boxes : List BoxLine → State
+  with_boxes lines = record s { boxes = s.boxes ++ lines }
+
   -- a user is listed, with these roles and no others
   abbrev pub with_roles : Name → List Name → State
   with_roles user roles = with_member (record { user = user; roles = roles })

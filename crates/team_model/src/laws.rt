@@ -69,11 +69,13 @@ pub fn keyless_owe_each_key()
 {}
 
 /// A root, titles beside each other, a join, a stranger's title, and a link that waits: the team and what became of each.
+#[tactic(auto, unfolding(crate::specs::KeyLines::lined, crate::specs::KeyLines::with_lines))]
 pub fn worked_team()
     ensures { ReefRow }
 {}
 
 /// Two links beside each other that list the same role: one counts, and the other is refused at its turn.
+#[tactic(auto, unfolding(crate::specs::KeyLines::lined, crate::specs::KeyLines::with_lines))]
 pub fn worked_refusal()
     ensures { TwiceRow }
 {}
@@ -90,6 +92,7 @@ pub fn worked_arrival()
 {}
 
 /// The rows of the act table, each with its reasons in their order: who founds, who is listed, who comes and goes.
+#[tactic(auto, unfolding(crate::specs::KeyLines::lined, crate::specs::KeyLines::with_lines))]
 pub fn worked_members()
     ensures founding { FoundingRow }
     ensures listed { ListedRow }
@@ -98,12 +101,14 @@ pub fn worked_members()
 {}
 
 /// The rows on roles: new ones and old ones, given and taken.
+#[tactic(auto, unfolding(crate::specs::KeyLines::lined, crate::specs::KeyLines::with_lines))]
 pub fn worked_roles()
     ensures roles { RoleRow }
     ensures gifts { GiftRow }
 {}
 
 /// The rows on devices, rotations and titles.
+#[tactic(auto, unfolding(crate::specs::KeyLines::lined, crate::specs::KeyLines::with_lines))]
 pub fn worked_devices()
     ensures devices { DeviceRow }
     ensures rotations { RotationRow }
@@ -111,6 +116,7 @@ pub fn worked_devices()
 {}
 
 /// Two admins who remove each other, three who do so in a ring, and a removal that comes late.
+#[tactic(auto, unfolding(crate::specs::KeyLines::lined, crate::specs::KeyLines::with_lines))]
 pub fn worked_removals()
     ensures two { TwoRow }
     ensures ring { RingRow }

@@ -6,10 +6,12 @@
 //! `ActTable` and the strikes of `Strikes`; `ShowText` says what is printed of it.
 #![tactic(auto)]
 
+mod key_line_laws;
 mod laws;
 mod limits;
 mod terms;
 
+pub use key_line_laws::{worked_box_lines, worked_new_lines, worked_removal_lines};
 pub use laws::{
     counting_is_right, keyless_owe_each_key, lawful_stays, meaning_is_of_order, meaning_is_of_set,
     none_is_struck, rank_is_defined, standers_are_apart, team_is_fold, team_of_past,
