@@ -1,4 +1,5 @@
 pub mod Ascending
+pub mod Current
 pub mod Found
 pub mod Lawful
 pub mod Listed

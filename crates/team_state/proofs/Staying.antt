@@ -1,16 +1,16 @@
 -- What stays in a table that ascends when a row is put or dropped.
-use Rattle.std.proofs.Common.{◌≡◌, ◌≤◌, ℕ, Bool, true, false, not, ◌||◌, cond, List, [], ◌∷◌, filter, find, length, map, suc, Option, Some, None, refl, sym, ◌∙◌, ap, subst, inl, inr, ◌⊎◌, arith}
+use Rattle.std.proofs.Common.{◌≡◌, ◌≤◌, Bool, true, false, not, cond, List, [], ◌∷◌, filter, find, length, suc, Option, Some, None, refl, sym, ◌∙◌, ap, subst, inl, inr, arith}
 use Rattle.std.specs.List.{list_any}
 use Rattle.std.specs.List.Sorted.{IsStrictlySortedBy}
-use Rattle.std.specs.Cmp.Lexicographic.{nat_list_cmp_total, nat_list_eq_equiv}
+use Rattle.std.specs.Cmp.Lexicographic.{nat_list_eq_equiv}
 use Rattle.std.specs.Ordering.{is_lt}
 use Rattle.std.specs.declared.cmp.Ordering.TheVariants.{Less}
-use Rattle.std.proofs.lemmas.Bool.{false≢true, not-true}
+use Rattle.std.proofs.lemmas.Bool.{false≢true}
 use Rattle.team_sets.specs.Members.{IsIn}
 use Rattle.team_sets.specs.Names.{Name, has_name, name_lt, put_in, same_name}
 use Rattle.team_sets.proofs.Agree.{any_in}
 use Rattle.team_sets.proofs.Decisions.{find_none, find_of}
-use Rattle.team_sets.proofs.OrderLeast.{in_filter, name_lt-irrefl, of_filter}
+use Rattle.team_sets.proofs.OrderLeast.{in_filter, name_lt-irrefl}
 use Rattle.team_sets.proofs.Pasts.{all_at, any_of, same_name-is}
 use Rattle.team_model.specs.State.{drop_row, put_name, put_row}
 use Rattle.team_state.specs.Kept.{name_cmp}

@@ -121,6 +121,13 @@ module _ (s : State) (keys : List KeyId) (live : List Scope) (kept : IsKept s ke
     scopes_are = kept.scopes_are;
   }
 
+  pub kept-boxes : (bs : List BoxLine) → IsKept (after.with_boxes s bs) keys live
+  kept-boxes bs = record {
+    ordered = record { members = kept.ordered.members; roles = kept.ordered.roles; devices = kept.ordered.devices; invitations = kept.ordered.invitations; currents = kept.ordered.currents; others = kept.ordered.others };
+    keys_are = kept.keys_are;
+    scopes_are = kept.scopes_are;
+  }
+
   pub kept-key : (k : KeyId) → is_device k.scope ≡ false → IsKept (after.with_key s k) (with_row scope_cmp same_scope scope_of_key k keys) live
   kept-key k other = record {
     ordered = record {

@@ -5,6 +5,7 @@
 //! tables say of keys is shown through `KeyTable`.
 #![tactic(auto)]
 
+mod keys;
 mod kinds;
 mod looking;
 mod rows;

@@ -15,7 +15,9 @@ use crate::looking::{
     member_has_role,
 };
 use crate::rows::{Piece, row_of};
-use crate::table::{Table, append, drop_both, make_table, put, put_both, replace_and_drop};
+use crate::table::{
+    Table, append, append_all, drop_both, make_table, put, put_both, replace_and_drop,
+};
 use crate::writing::{
     drop_user, listed_device, put_device_rows, put_newcomer_rows, scopes_without, without_listing,
 };
@@ -422,6 +424,35 @@ impl TeamState {
         ensures err { OnErr result (self.new ≡ self.old) }
     {
         append(&mut self.boxes, line.copy(self.alloc)?)?;
+        Ok(())
+    }
+
+    /// Becomes another state with the same boxes, and has these more; or, without memory, stays. The held boxes aren't copied for it.
+    pub fn become_with(&mut self, next: TeamState, more: Vec<BoxLine>) -> Result<(), Memory>
+        requires { next.boxes ≡ self.old.boxes }
+        ensures ok { OnOk result (self.new ≡ after.with_boxes next more.items) }
+        ensures err { OnErr result (self.new ≡ self.old) }
+    {
+        let TeamState {
+            alloc: _,
+            title,
+            members,
+            roles,
+            devices,
+            invitations,
+            keys,
+            boxes,
+            scopes,
+        } = next;
+        drop(boxes);
+        append_all(&mut self.boxes, more)?;
+        self.title = title;
+        self.members = members;
+        self.roles = roles;
+        self.devices = devices;
+        self.invitations = invitations;
+        self.keys = keys;
+        self.scopes = scopes;
         Ok(())
     }
 }

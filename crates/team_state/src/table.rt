@@ -56,6 +56,19 @@ pub(crate) fn append<T: Piece>(table: &mut Rc<Table<T>>, row: T) -> Result<(), M
     Ok(())
 }
 
+/// Adds rows at the end: all of them or, without memory, none.
+pub(crate) fn append_all<T: Piece>(table: &mut Rc<Table<T>>, mut rows: Vec<T>) -> Result<(), Memory>
+    ensures ok { OnOk result (table.new.value.rows.items ≡ table.old.value.rows.items ++ rows.items) }
+    ensures err { OnErr result (table.new.value.rows.items ≡ table.old.value.rows.items) }
+{
+    if rows.is_empty() {
+        return Ok(());
+    }
+    let table = Rc::make_mut(table)?;
+    table.rows.append(&mut rows)?;
+    Ok(())
+}
+
 /// Puts a row into a table.
 pub(crate) fn put<T: Row>(table: &mut Rc<Table<T>>, row: T) -> Result<(), Memory>
     requires { Ascend T.order T.key_of table.old.value.rows.items }
