@@ -1,3 +1,9 @@
+pub mod Devices
 pub mod Firm
+pub mod Fitting
+pub mod Pasts
+pub mod Printed
 pub mod Sounding
 pub mod SoundTeams
+pub mod Taken
+pub mod Untouched

@@ -1,2 +1,4 @@
 pub mod ActLaws
+pub mod News
+pub mod Prints
 pub mod Sound

@@ -6,8 +6,12 @@
 #![tactic(auto)]
 
 mod applying;
+mod boxes;
 mod effects;
+mod known;
 mod laws;
+mod lining;
+mod news;
 mod permitting;
 mod roles;
 mod rows;
