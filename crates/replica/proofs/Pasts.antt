@@ -6,6 +6,7 @@ use Rattle.team_sets.specs.OrderLaws.{IsSet}
 use Rattle.team_sets.proofs.Pasts.{same_name-is}
 use Rattle.team_model.specs.ActTable.{after, effect_by}
 use Rattle.team_model.specs.Judging.{name_of, fold_team, past_of, resolved, team, team_rules}
+use Rattle.team_model.specs.KeyLines.{lined}
 use Rattle.team_model.specs.State.{State}
 use Rattle.team_model.specs.declared.terms.Link.{Link}
 use Rattle.team_model.proofs.Brought.{team_brings_in}
@@ -35,7 +36,7 @@ follows_one links p link before ns parent here back parents some few read same x
     ap (λ (z : Link). z.prev) (sym is_x) ∙ sym parents ∙ one_parent ns parent some few read ∙ ap (λ n. n ∷ []) (same_name-is parent before.name same ∙ ap (λ (z : Link). z.name) is_y)
 
 refused_stays : RefusedStays team_rules
-refused_stays s e h = ap (λ b. cond b (effect_by sha256 s e e.act) s) h
+refused_stays s e h = ap (λ b. cond b (lined (effect_by sha256 s e e.act) e) s) h
 
 module _ (links : List Link) (set_of : IsSet name_of links) where
   -- from the parents

@@ -46,6 +46,7 @@ pub fn gives_back()
 {}
 
 /// Removals over three branches, by who is the most senior.
+#[tactic(auto, unfolding(team_model::specs::KeyLines::lined, team_model::specs::KeyLines::with_lines))]
 pub fn worked_branches()
     ensures ann { BranchesRow }
     ensures cy { JuniorBranchRow }
@@ -53,6 +54,7 @@ pub fn worked_branches()
 {}
 
 /// A removal that has seen an addition and one that hasn't, a gift that is struck beside its use, an outsider, and one who leaves.
+#[tactic(auto, unfolding(team_model::specs::KeyLines::lined, team_model::specs::KeyLines::with_lines))]
 pub fn worked_removals()
     ensures seen { SeenRow }
     ensures gift { StruckGiftRow }
@@ -61,6 +63,7 @@ pub fn worked_removals()
 {}
 
 /// What a removed device and a taken role strike.
+#[tactic(auto, unfolding(team_model::specs::KeyLines::lined, team_model::specs::KeyLines::with_lines))]
 pub fn worked_strikes()
     ensures device { DeviceStruckRow }
     ensures role { GiftStruckRow }
