@@ -29,29 +29,29 @@ use Rattle.key_laws.specs.TaintLaws.{with_boxes}
 use Rattle.key_laws.proofs.Reached.{arrow_of, both_true, not_true}
 
 -- a list without members is empty
-none_in : {A : Type 0} (xs : List A) → ((x : A) → IsIn x xs → ⊥) → xs ≡ []
+pub none_in : {A : Type 0} (xs : List A) → ((x : A) → IsIn x xs → ⊥) → xs ≡ []
 none_in [] never = refl
 none_in (x ∷ xs) never = absurd (never x (inl refl))
 
-no_member : {A : Type 0} (xs : List A) (x : A) → xs ≡ [] → IsIn x xs → ⊥
+pub no_member : {A : Type 0} (xs : List A) (x : A) → xs ≡ [] → IsIn x xs → ⊥
 no_member xs x e k = subst (λ l. IsIn x l) e k
 
 -- what a boxed pair says
-box_held : (boxes : List BoxLine) (to of : KeyId) → has_box boxes to of ≡ true → (b : BoxLine) × IsIn b boxes × (b.to ≡ to) × (b.of ≡ of)
+pub box_held : (boxes : List BoxLine) (to of : KeyId) → has_box boxes to of ≡ true → (b : BoxLine) × IsIn b boxes × (b.to ≡ to) × (b.of ≡ of)
 box_held boxes to of h =
     let r = of-map (λ (b : BoxLine). b.of) of (filter (λ b. same_key b.to to) boxes) (in-has-key (contents_to boxes to) of h) in
     let f = of_filter (λ b. same_key b.to to) r.0 boxes r.1 in
     (r.0, f.0, key-is r.0.to to f.1, r.2)
 
-held_box : (boxes : List BoxLine) (b : BoxLine) → IsIn b boxes → has_box boxes b.to b.of ≡ true
+pub held_box : (boxes : List BoxLine) (b : BoxLine) → IsIn b boxes → has_box boxes b.to b.of ≡ true
 held_box boxes b k = has-in-key (contents_to boxes b.to) b.of (in-map (λ (c : BoxLine). c.of) b (filter (λ c. same_key c.to b.to) boxes) (in_filter (λ c. same_key c.to b.to) b boxes k (key-same b.to)))
 
 module _ (t : Table) where
   -- a clean key is a current key that isn't tainted
-  clean_parts : (k : KeyId) → IsIn k (clean t) → IsIn k (current_keys t) × (is_tainted t k ≡ false)
+  pub clean_parts : (k : KeyId) → IsIn k (clean t) → IsIn k (current_keys t) × (is_tainted t k ≡ false)
   clean_parts k j = let f = of_filter (λ l. not (is_tainted t l)) k (current_keys t) j in (f.0, not_true (is_tainted t k) f.1)
 
-  parts_clean : (k : KeyId) → IsIn k (current_keys t) → is_tainted t k ≡ false → IsIn k (clean t)
+  pub parts_clean : (k : KeyId) → IsIn k (current_keys t) → is_tainted t k ≡ false → IsIn k (clean t)
   parts_clean k j e = in_filter (λ l. not (is_tainted t l)) k (current_keys t) j (ap not e)
 
   -- a pair that lacks a box
@@ -61,7 +61,7 @@ module _ (t : Table) where
     pub planned : plans t p.0 p.1 ≡ true
     pub unboxed : has_box t.boxes p.0 p.1 ≡ false
 
-  of_lacks : (p : KeyId × KeyId) → IsIn p (lacks t) → IsLacking p
+  pub of_lacks : (p : KeyId × KeyId) → IsIn p (lacks t) → IsLacking p
   of_lacks p k =
       let r = of-flat (lacks_to t (clean t)) (clean t) p k in
       let s = of-map (λ of. (r.0, of)) p (filter (lacks_box t r.0) (clean t)) r.2 in
@@ -69,7 +69,7 @@ module _ (t : Table) where
       let tests = both_true (plans t r.0 s.0) (not (has_box t.boxes r.0 s.0)) f.1 in
       subst IsLacking s.2 (record { to = r.1; of = f.0; planned = tests.0; unboxed = not_true (has_box t.boxes r.0 s.0) tests.1 })
 
-  in_lacks : (p : KeyId × KeyId) → IsLacking p → IsIn p (lacks t)
+  pub in_lacks : (p : KeyId × KeyId) → IsLacking p → IsIn p (lacks t)
   in_lacks p is =
       in-flat (lacks_to t (clean t)) (clean t) p.0 p is.to
       (in-map (λ of. (p.0, of)) p.1 (filter (lacks_box t p.0) (clean t)) (in_filter (lacks_box t p.0) p.1 (clean t) is.of (λ i. is.planned i && not (is.unboxed i))))
