@@ -20,6 +20,7 @@ use Rattle.lms_tree.proofs.Verified.{key_parts, signature_parts, signed_verifies
 use Rattle.lms_keep.specs.KeyText.{IsKeyState, leaves}
 use Rattle.lms_keep.specs.Signing.{tree_key}
 use Rattle.lms_keep.specs.declared.key_state.KeyState.{KeyState}
+use Rattle.link_text.proofs.Fields.{no_key_lines}
 use Rattle.link_text.specs.LinkText.{IsValid, IsWellFormed, Reads, act_line, first_line, key_line, proves, sign_line, team_line, text, time_line, user_line}
 use Rattle.link_text.specs.Drafts.{draft_body}
 use Rattle.link_text.specs.TeamFile.{IsHeld}
@@ -72,7 +73,7 @@ module _ (user key seal title : List ℕ) (time : ℕ) (signature name : List �
       device = refl;
       time = fits;
       act = (sealed, titled);
-      key_lines = (refl, refl);
+      key_lines = no_key_lines;
       signature_bytes = bytes;
     };
     rules = record {

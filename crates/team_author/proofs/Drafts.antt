@@ -22,6 +22,7 @@ use Rattle.team_model.specs.declared.terms.Reason.{Reason}
 use Rattle.team_model.specs.declared.terms.Reason.TheVariants.{NotListed}
 use Rattle.lms_keep.specs.KeyText.{IsKeyState}
 use Rattle.lms_keep.specs.declared.key_state.KeyState.{KeyState}
+use Rattle.link_text.proofs.Fields.{no_key_lines}
 use Rattle.link_text.specs.Drafts.{link_of}
 use Rattle.link_text.specs.LinkText.{text}
 use Rattle.link_text.specs.ReadYet.{is_read_yet}
@@ -84,7 +85,7 @@ module _ (held : Held) (s : KeyState) (key : List ℕ) (act : Act) (time : ℕ) 
           device = refl;
           time = fits;
           act = range;
-          key_lines = (refl, refl);
+          key_lines = no_key_lines;
           signature_bytes = bytes;
         };
         rules = record {
@@ -111,7 +112,7 @@ module _ (held : Held) (s : KeyState) (key : List ℕ) (act : Act) (time : ℕ) 
           device = refl;
           time = fits;
           act = range;
-          key_lines = (refl, refl);
+          key_lines = no_key_lines;
           signature_bytes = bytes;
         };
         rules = record {
