@@ -1,2 +1,3 @@
 pub mod OfHeld
+pub mod OpenedKeys
 pub mod Unheld

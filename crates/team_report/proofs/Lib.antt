@@ -1,5 +1,6 @@
 pub mod Counted
 pub mod Explains
+pub mod KeysOnce
 pub mod LineSteps
 pub mod Places
 pub mod SameTexts

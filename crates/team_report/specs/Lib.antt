@@ -1,5 +1,7 @@
 pub mod Entries
 pub mod HeadsText
+pub mod KeysLaws
+pub mod KeysText
 pub mod Lines
 pub mod LogText
 pub mod Shown

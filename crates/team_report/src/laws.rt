@@ -1,3 +1,4 @@
+ghost use Rattle.team_report.specs.KeysLaws.{OpenedKeysAreExact};
 ghost use Rattle.team_report.specs.TextLaws.{TextsAreOfSet};
 
 use team_model::text_is_of_set;
@@ -8,3 +9,8 @@ pub fn texts_are_of_set()
 {
     text_is_of_set();
 }
+
+/// The keys whose ids are printed of what a device opens are those of which it opens some secret, each once, in order.
+pub fn opened_keys_are_exact()
+    ensures { OpenedKeysAreExact }
+{}

@@ -6,6 +6,7 @@ ghost use Rattle.team_report.specs.Lines.{links_line, team_line, title_line};
 ghost use Rattle.team_report.specs.Shown.{shown};
 
 use crate::by_user::write_devices;
+use crate::current_keys::write_current_keys;
 use crate::debts::write_debts;
 use crate::tables::{write_members, write_roles};
 use replica::{Replica, TeamState, Verdict};
@@ -116,5 +117,6 @@ fn write_state(alloc: Global, out: &mut Bytes, state: &TeamState) -> Result<(), 
     write_members(out, state.members())?;
     write_devices(alloc, out, state.devices())?;
     write_roles(out, state.roles())?;
+    write_current_keys(alloc, out, state)?;
     write_debts(alloc, out, state)
 }
