@@ -46,7 +46,7 @@ module _ (any : MergesInAnyOrder) (old second : Held) (G H : List ℕ → Type 0
       at ∙ ap (λ (b : List ℕ). Some b) one ∙ sym there
 
 pub any_order : MergesInAnyOrder → RunsLeaveUnion → RunsInAnyOrder
-any_order any union public_of files last begun ended runs others name other old second are too there found team apart fits clear short alike =
-    let mine = union public_of files last runs name old are there apart fits in
-    let theirs = union public_of begun ended others other second too found clear short in
-    same_bytes any old second (IsGivenBy public_of runs name) (IsGivenBy public_of others other) team apart fits alike mine.0 theirs.0 mine.2 theirs.2 last ended name other mine.1 theirs.1
+any_order any union keeper files last begun ended runs others name other old second are too there found team apart fits clear short alike =
+    let mine = union keeper files last runs name old are there apart fits in
+    let theirs = union keeper begun ended others other second too found clear short in
+    same_bytes any old second (IsGivenBy keeper runs name) (IsGivenBy keeper others other) team apart fits alike mine.0 theirs.0 mine.2 theirs.2 last ended name other mine.1 theirs.1

@@ -20,6 +20,7 @@ use Rattle.link_intake.specs.ResultsText.{results_text}
 use Rattle.link_intake.specs.UnionLaws.{Fits, HasItem, IsAmong, IsTextOf, IsUnion, IsValidText, NoClash}
 use Rattle.link_intake.proofs.MergedFiles.{bundle_union}
 use Rattle.link_intake.proofs.Unions.{clash_later, clash_within, fits_later, fits_within, union_join, union_same}
+use Rattle.lockboxes.specs.Keeping.{Keeper}
 use Rattle.outcomes.specs.Refusing.{FindsBytes, FindsNone, opening}
 use Rattle.outcomes.specs.Seeing.{AreKnown, IsCut}
 use Rattle.outcomes.specs.Steps.{World, Step, Outcome, after, draws, put, puts, replace, saying, writes}
@@ -27,7 +28,7 @@ use Rattle.openers.specs.Team.{FindsTeam}
 use Rattle.team_report.specs.HeadsText.{heads_text}
 use Rattle.team_report.specs.LogText.{log_text}
 use Rattle.team_words.specs.declared.command.Command.{Command}
-use Rattle.team_words.specs.declared.command.Command.TheVariants.{Heads, Log, Make, Merge, Newkey, Plain, Show, Why}
+use Rattle.team_words.specs.declared.command.Command.TheVariants.{Heads, Keys, Log, Make, Merge, Newkey, Plain, Show, Why}
 use Rattle.key_commands.specs.Make.{founding_puts, make_text, making_team}
 use Rattle.key_commands.specs.Newkey.{drawn_key, making, newkey_text}
 use Rattle.exchange_commands.specs.Merge.{merged, merging}
@@ -40,7 +41,7 @@ use Rattle.team_run.specs.Serving.{HoldsTeam}
 use Rattle.team_run.proofs.Cuts.{draws_replace_none, file_kept, last_bytes, replaced_or_not, replaces_part, same_files, saying_replaces_none, told_known, whole_replaces, writes_replace_none}
 use Rattle.team_run.proofs.Openings.{IsSaid, absent_or, founds, never_both, some_same, team_or, there_or}
 use Rattle.team_run.proofs.Posted.{authored_grows}
-use Rattle.team_run.proofs.Reports.{IsSaying, report_replaces_none, says_why}
+use Rattle.team_run.proofs.Reports.{IsSaying, keys_replace_none, report_replaces_none, says_why}
 use Rattle.team_run.proofs.Rights.{IsRight, words_right}
 use Rattle.team_run.proofs.Runs.{CommandGives, words_give}
 
@@ -64,10 +65,10 @@ among_more old G H more b (inl h) = inl h
 among_more old G H more b (inr k) = inr (more b k)
 
 -- a command that makes files found each of them absent
-module _ (public_of : List ℕ → List ℕ) (file key_file user title : List ℕ) (w : World) (o : Outcome) (name : List ℕ) (first rest : List Step) (whole : o.steps ≡ first ++ rest)
+module _ (keeper : Keeper) (file key_file user title : List ℕ) (w : World) (o : Outcome) (name : List ℕ) (first rest : List Step) (whole : o.steps ≡ first ++ rest)
     (replaced : Replaces name first) where
   abbrev root : Link
-  root = root_of public_of user title w
+  root = root_of keeper.public_of user title w
 
   none_said : IsSaid o → fin.get w.files name ≡ None
   none_said said = absurd (saying_replaces_none name said.0 3 o first rest said.1 whole replaced)
@@ -87,46 +88,46 @@ module _ (public_of : List ℕ → List ℕ) (file key_file user title : List �
   of_steps f k (inl x) = absurd (draws_replace_none name 3 x)
   of_steps f k (inr x) = of_puts f k x
 
-  by_key : fin.get w.files file ≡ None → IsSaid o ⊎ ((none : Unit {0}) × (fin.get w.files key_file ≡ None) × founds public_of file key_file user title w o) → fin.get w.files name ≡ None
+  by_key : fin.get w.files file ≡ None → IsSaid o ⊎ ((none : Unit {0}) × (fin.get w.files key_file ≡ None) × founds keeper.public_of file key_file user title w o) → fin.get w.files name ≡ None
   by_key f (inl said) = none_said said
   by_key f (inr (none, k, is)) =
-      let steps = whole_replaces name o (making_team public_of file key_file title w.moment (drawn_key user w)) first rest is whole replaced in
+      let steps = whole_replaces name o (making_team keeper.public_of file key_file title w.moment (drawn_key user w)) first rest is whole replaced in
       of_steps f k (replaces_part name (draws 3) (puts (founding_puts file key_file (drawn_key user w) root) ++ writes (make_text root)) steps)
 
-  by_file : IsSaid o ⊎ ((none : Unit {0}) × (fin.get w.files file ≡ None) × opening FindsNone key_file (λ none. founds public_of file key_file user title) w o) → fin.get w.files name ≡ None
+  by_file : IsSaid o ⊎ ((none : Unit {0}) × (fin.get w.files file ≡ None) × opening FindsNone key_file (λ none. founds keeper.public_of file key_file user title) w o) → fin.get w.files name ≡ None
   by_file (inl said) = none_said said
-  by_file (inr (none, f, d)) = by_key f (absent_or key_file (λ none. founds public_of file key_file user title) w o d)
+  by_file (inr (none, f, d)) = by_key f (absent_or key_file (λ none. founds keeper.public_of file key_file user title) w o d)
 
-  pub made_absent : does_words public_of (Some (Make file key_file user title)) w o → fin.get w.files name ≡ None
-  made_absent d = by_file (absent_or file (λ none. opening FindsNone key_file (λ none. founds public_of file key_file user title)) w o d)
+  pub made_absent : does_words keeper (Some (Make file key_file user title)) w o → fin.get w.files name ≡ None
+  made_absent d = by_file (absent_or file (λ none. opening FindsNone key_file (λ none. founds keeper.public_of file key_file user title)) w o d)
 
-module _ (public_of : List ℕ → List ℕ) (key_file user : List ℕ) (w : World) (o : Outcome) (name : List ℕ) (first rest : List Step) (whole : o.steps ≡ first ++ rest)
+module _ (keeper : Keeper) (key_file user : List ℕ) (w : World) (o : Outcome) (name : List ℕ) (first rest : List Step) (whole : o.steps ≡ first ++ rest)
     (replaced : Replaces name first) where
   abbrev key : KeyState
   key = drawn_key user w
 
-  of_key_put : fin.get w.files key_file ≡ None → (key_file ≡ name) ⊎ Replaces name (writes (newkey_text public_of key)) → fin.get w.files name ≡ None
+  of_key_put : fin.get w.files key_file ≡ None → (key_file ≡ name) ⊎ Replaces name (writes (newkey_text keeper.public_of key)) → fin.get w.files name ≡ None
   of_key_put k (inl e) = subst (λ (n : List ℕ). fin.get w.files n ≡ None) e k
-  of_key_put k (inr x) = absurd (writes_replace_none name (newkey_text public_of key) x)
+  of_key_put k (inr x) = absurd (writes_replace_none name (newkey_text keeper.public_of key) x)
 
-  of_key_steps : fin.get w.files key_file ≡ None → Replaces name (draws 3) ⊎ Replaces name (puts (put key_file (key_text key) ∷ []) ++ writes (newkey_text public_of key)) → fin.get w.files name ≡ None
+  of_key_steps : fin.get w.files key_file ≡ None → Replaces name (draws 3) ⊎ Replaces name (puts (put key_file (key_text key) ∷ []) ++ writes (newkey_text keeper.public_of key)) → fin.get w.files name ≡ None
   of_key_steps k (inl x) = absurd (draws_replace_none name 3 x)
   of_key_steps k (inr x) = of_key_put k x
 
-  by_key_file : IsSaid o ⊎ ((none : Unit {0}) × (fin.get w.files key_file ≡ None) × (o ≡ making public_of key_file key)) → fin.get w.files name ≡ None
+  by_key_file : IsSaid o ⊎ ((none : Unit {0}) × (fin.get w.files key_file ≡ None) × (o ≡ making keeper.public_of key_file key)) → fin.get w.files name ≡ None
   by_key_file (inl said) = absurd (saying_replaces_none name said.0 3 o first rest said.1 whole replaced)
   by_key_file (inr (none, k, is)) =
-      of_key_steps k (replaces_part name (draws 3) (puts (put key_file (key_text key) ∷ []) ++ writes (newkey_text public_of key)) (whole_replaces name o (making public_of key_file key) first rest is whole replaced))
+      of_key_steps k (replaces_part name (draws 3) (puts (put key_file (key_text key) ∷ []) ++ writes (newkey_text keeper.public_of key)) (whole_replaces name o (making keeper.public_of key_file key) first rest is whole replaced))
 
-  pub newkey_absent : does_words public_of (Some (Newkey key_file user)) w o → fin.get w.files name ≡ None
-  newkey_absent d = by_key_file (absent_or key_file (λ none w o. o ≡ making public_of key_file (drawn_key user w)) w o d)
+  pub newkey_absent : does_words keeper (Some (Newkey key_file user)) w o → fin.get w.files name ≡ None
+  newkey_absent d = by_key_file (absent_or key_file (λ none w o. o ≡ making keeper.public_of key_file (drawn_key user w)) w o d)
 
-module _ (once : LinkIsSpelledOnce) (file_once : FileIsReadOnce) (bundle_once : BundleIsReadOnce) (key_once : KeyIsSpelledOnce) (public_of : List ℕ → List ℕ) (w : World) (name : List ℕ) (old : Held)
+module _ (once : LinkIsSpelledOnce) (file_once : FileIsReadOnce) (bundle_once : BundleIsReadOnce) (key_once : KeyIsSpelledOnce) (keeper : Keeper) (w : World) (name : List ℕ) (old : Held)
     (there : HoldsTeam w.files name old) (o : Outcome) (first rest : List Step) (whole : o.steps ≡ first ++ rest) (replaced : Replaces name first) where
   -- the file is the union of its links and what the command gives
   abbrev Grows : Option Command → Type 0
-  Grows command = NoClash old (CommandGives public_of command w name) → Fits old (CommandGives public_of command w name)
-      → (new : Held) × HoldsTeam (after first w).files name new × IsUnion old (CommandGives public_of command w name) new
+  Grows command = NoClash old (CommandGives keeper command w name) → Fits old (CommandGives keeper command w name)
+      → (new : Held) × HoldsTeam (after first w).files name new × IsUnion old (CommandGives keeper command w name) new
 
   -- a refusal replaces nothing
   not_said : {T : Type 0} → IsSaid o → T
@@ -134,7 +135,7 @@ module _ (once : LinkIsSpelledOnce) (file_once : FileIsReadOnce) (bundle_once : 
 
   module _ (file bundle : List ℕ) where
     abbrev Gives : List ℕ → Type 0
-    Gives = CommandGives public_of (Some (Merge file bundle)) w name
+    Gives = CommandGives keeper (Some (Merge file bundle)) w name
 
     -- the bundle was given to the links of the file
     module _ (held : Held) (bytes given : List ℕ) (at : fin.get w.files file ≡ Some bytes) (in_file : IsHeldIn bytes held) (at_bundle : fin.get w.files bundle ≡ Some given) (new : Held)
@@ -191,12 +192,12 @@ module _ (once : LinkIsSpelledOnce) (file_once : FileIsReadOnce) (bundle_once : 
   none_replaced : (file : List ℕ) (tells : Held → Outcome) → ((held : Held) → IsSaying (tells held)) → opening FindsTeam file (λ held w o. o ≡ tells held) w o → ⊥
   none_replaced file tells says d = report_replaces_none file name tells says w o first rest whole replaced d
 
-  pub command_grows : (command : Option Command) → IsRight command → does_words public_of command w o → Grows command
+  pub command_grows : (command : Option Command) → IsRight command → does_words keeper command w o → Grows command
   command_grows None right d apart fits = absurd (saying_replaces_none name (codes "usage\n") 2 o first rest d whole replaced)
   command_grows (Some (Make file key_file user title)) right d apart fits =
-      absurd (never_both (fin.get w.files name) there.0 there.1 (made_absent public_of file key_file user title w o name first rest whole replaced d))
+      absurd (never_both (fin.get w.files name) there.0 there.1 (made_absent keeper file key_file user title w o name first rest whole replaced d))
   command_grows (Some (Newkey key_file user)) right d apart fits =
-      absurd (never_both (fin.get w.files name) there.0 there.1 (newkey_absent public_of key_file user w o name first rest whole replaced d))
+      absurd (never_both (fin.get w.files name) there.0 there.1 (newkey_absent keeper key_file user w o name first rest whole replaced d))
   command_grows (Some (Plain file key_file act)) may d apart fits =
       authored_grows file_once key_once (plain_plan act w.moment) file key_file w name o first rest whole replaced (one_plan act w.moment)
       (λ held s p is range h. plain_sound act w.moment may d.0 held s is range p h) old there d.1
@@ -205,35 +206,36 @@ module _ (once : LinkIsSpelledOnce) (file_once : FileIsReadOnce) (bundle_once : 
   command_grows (Some (Log file)) right d apart fits = absurd (none_replaced file (λ held. saying 0 (log_text held.links)) (λ held. (log_text held.links, 0, refl)) d)
   command_grows (Some (Heads file)) right d apart fits = absurd (none_replaced file (λ held. saying 0 (heads_text held.links)) (λ held. (heads_text held.links, 0, refl)) d)
   command_grows (Some (Why file link)) right d apart fits = absurd (none_replaced file (λ held. explaining held.links link) (λ held. says_why held link) d)
+  command_grows (Some (Keys file key_file)) right d apart fits = absurd (keys_replace_none keeper file key_file name w o first rest whole replaced d)
 
-module _ (once : LinkIsSpelledOnce) (file_once : FileIsReadOnce) (bundle_once : BundleIsReadOnce) (key_once : KeyIsSpelledOnce) (public_of : List ℕ → List ℕ) (name : List ℕ) where
+module _ (once : LinkIsSpelledOnce) (file_once : FileIsReadOnce) (bundle_once : BundleIsReadOnce) (key_once : KeyIsSpelledOnce) (keeper : Keeper) (name : List ℕ) where
   -- one run
   module _ (r : OneRun) (old : Held) (there : HoldsTeam r.old.files name old) where
     abbrev Given : List ℕ → Type 0
-    Given = IsGivenIn public_of r name
+    Given = IsGivenIn keeper r name
 
     abbrev ToGive : List ℕ → Type 0
-    ToGive = WordsGive public_of r.words r.old name
+    ToGive = WordsGive keeper r.words r.old name
 
     abbrev Union : Type 0
     Union = (new : Held) × HoldsTeam r.new.files name new × IsUnion old Given new
 
     -- where the replace is done
-    replaced_union : IsReplaced public_of r name → NoClash old Given → Fits old Given → (new : Held) × HoldsTeam r.new.files name new × IsUnion old ToGive new
+    replaced_union : IsReplaced keeper r name → NoClash old Given → Fits old Given → (new : Held) × HoldsTeam r.new.files name new × IsUnion old ToGive new
     replaced_union done apart fits =
         let cut = done.cut in
         let command = done.does.0 in
-        let Gives = CommandGives public_of command r.old name in
-        let same = λ (b : List ℕ). words_give public_of r.words r.old name b command done.does.1 in
+        let Gives = CommandGives keeper command r.old name in
+        let same = λ (b : List ℕ). words_give keeper r.words r.old name b command done.does.1 in
         let among = among_more old Given Gives (λ b k. (done, (same b).1 k)) in
-        let grown = command_grows once file_once bundle_once key_once public_of r.old name old there done.outcome cut.first cut.rest cut.whole done.replaced command (words_right done.does.1) done.does.2
+        let grown = command_grows once file_once bundle_once key_once keeper r.old name old there done.outcome cut.first cut.rest cut.whole done.replaced command (words_right done.does.1) done.does.2
         (clash_within old old Given Gives refl among apart) (fits_within old old Given Gives refl among fits) in (
           grown.0,
           subst (λ (m : FileMap). HoldsTeam m name grown.0) (sym (same_files r.new (after cut.first r.old) cut.told)) grown.1,
           union_alike old grown.0 Gives ToGive (λ b. ((same b).1, (same b).0)) grown.2,
         )
 
-    grown_union : IsReplaced public_of r name → NoClash old Given → Fits old Given → Union
+    grown_union : IsReplaced keeper r name → NoClash old Given → Fits old Given → Union
     grown_union done apart fits =
         let u = replaced_union done apart fits in
         (u.0, u.1, union_alike old u.0 ToGive Given (λ b. (λ k. (done, k), λ g. g.1)) u.2)
@@ -253,28 +255,28 @@ module _ (once : LinkIsSpelledOnce) (file_once : FileIsReadOnce) (bundle_once : 
             let two = file_once there.0 u.0.team old.team u.0.links old.links (subst (λ (x : List ℕ). IsFileOf x u.0.team u.0.links) one u.1.2) there.2 in
             (has.0, two.1.forth has.0 has.1, has.2)
 
-    pub run_union : IsRun public_of r → NoClash old Given → Fits old Given → Union
+    pub run_union : IsRun keeper r → NoClash old Given → Fits old Given → Union
     run_union is apart fits = go (is.cut r.old (told_known r.old))
       where
-        by_cut : (o : Outcome) → does_run public_of r.words r.old o → (cut : IsCut (told r.new) o.steps r.old) → Replaces name cut.first ⊎ (¬ (Replaces name cut.first)) → Union
+        by_cut : (o : Outcome) → does_run keeper r.words r.old o → (cut : IsCut (told r.new) o.steps r.old) → Replaces name cut.first ⊎ (¬ (Replaces name cut.first)) → Union
         by_cut o d cut (inl hit) = grown_union (record { outcome = o; does = d; cut = cut; replaced = hit }) apart fits
         by_cut o d cut (inr none) =
             same_union (ap (λ (m : FileMap). fin.get m name) (same_files r.new (after cut.first r.old) cut.told) ∙ file_kept cut.first r.old name none) apart fits
 
-        go : AreKnown (told r.new) r.old ⊎ ((o : Outcome) × does_run public_of r.words r.old o × IsCut (told r.new) o.steps r.old) → Union
+        go : AreKnown (told r.new) r.old ⊎ ((o : Outcome) × does_run keeper r.words r.old o × IsCut (told r.new) o.steps r.old) → Union
         go (inl nothing) = same_union (ap (λ (m : FileMap). fin.get m name) (same_files r.new r.old nothing)) apart fits
         go (inr (o, d, cut)) = by_cut o d cut (replaced_or_not name cut.first)
 
-  parts_by : (r : OneRun) (runs : List OneRun) (b : List ℕ) → IsGivenBy public_of (r ∷ runs) name b ↔ (IsGivenIn public_of r name b ⊎ IsGivenBy public_of runs name b)
+  parts_by : (r : OneRun) (runs : List OneRun) (b : List ℕ) → IsGivenBy keeper (r ∷ runs) name b ↔ (IsGivenIn keeper r name b ⊎ IsGivenBy keeper runs name b)
   parts_by r runs b = (λ k. k, λ k. k)
 
   -- and one after another
-  pub runs_union : (files last : FileMap) (runs : List OneRun) (old : Held) → AreRuns public_of files runs last → HoldsTeam files name old → NoClash old (IsGivenBy public_of runs name)
-      → Fits old (IsGivenBy public_of runs name) → (new : Held) × HoldsTeam last name new × IsUnion old (IsGivenBy public_of runs name) new
+  pub runs_union : (files last : FileMap) (runs : List OneRun) (old : Held) → AreRuns keeper files runs last → HoldsTeam files name old → NoClash old (IsGivenBy keeper runs name)
+      → Fits old (IsGivenBy keeper runs name) → (new : Held) × HoldsTeam last name new × IsUnion old (IsGivenBy keeper runs name) new
   runs_union files last [] old are there apart fits =
-      (old, subst (λ (m : FileMap). HoldsTeam m name old) (sym are) there, union_same old (IsGivenBy public_of [] name) there.2.held (λ b k v. absurd k))
+      (old, subst (λ (m : FileMap). HoldsTeam m name old) (sym are) there, union_same old (IsGivenBy keeper [] name) there.2.held (λ b k v. absurd k))
   runs_union files last (r ∷ runs) old are there apart fits =
-      let G = IsGivenIn public_of r name in let H = IsGivenBy public_of runs name in let K = IsGivenBy public_of (r ∷ runs) name in
+      let G = IsGivenIn keeper r name in let H = IsGivenBy keeper runs name in let K = IsGivenBy keeper (r ∷ runs) name in
       let among = among_more old K G (λ b g. inl g) in
       let found = subst (λ (m : FileMap). HoldsTeam m name old) (sym are.0) there in
       let first = run_union r old found are.1 (clash_within old old K G refl among apart) (fits_within old old K G refl among fits) in

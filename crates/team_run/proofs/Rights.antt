@@ -10,9 +10,9 @@ use Rattle.std.proofs.lemmas.Str.{IsUtf8-from_is_utf8}
 use Rattle.tg_text.specs.Spelling.{IsTitle, is_printing, is_user_name}
 use Rattle.acts.specs.declared.entry.Act.{Act}
 use Rattle.team_words.specs.Acts.{IsActOf, MayGive}
-use Rattle.team_words.specs.Words.{IsCommandOf, are_two_files, asks_act, command_with, is_field, is_title, keyed_with, make_of, make_with, merge_of, newkey_of, hash_of, plain_of, report_of, why_of}
+use Rattle.team_words.specs.Words.{IsCommandOf, are_two_files, asks_act, command_with, is_field, is_title, keyed_with, make_of, make_with, merge_of, newkey_of, hash_of, keys_of, plain_of, report_of, why_of}
 use Rattle.team_words.specs.declared.command.Command.{Command}
-use Rattle.team_words.specs.declared.command.Command.TheVariants.{Heads, Log, Make, Merge, Newkey, Plain, Show, Why}
+use Rattle.team_words.specs.declared.command.Command.TheVariants.{Heads, Keys, Log, Make, Merge, Newkey, Plain, Show, Why}
 
 -- what the words of a command are
 abbrev pub IsRight : Option Command → Type 0
@@ -25,6 +25,7 @@ IsRight (Some (Show file)) = Unit {0}
 IsRight (Some (Log file)) = Unit {0}
 IsRight (Some (Heads file)) = Unit {0}
 IsRight (Some (Why file name)) = Unit {0}
+IsRight (Some (Keys file key_file)) = Unit {0}
 
 either : (b : Bool) (x y : Option Command) → (b ≡ true → IsRight x) → IsRight y → IsRight (cond b x y)
 either true x y one_right other_right = one_right refl
@@ -71,6 +72,20 @@ why_right file name = either (is_field file) (option_map (λ (n : List ℕ). Why
     named None = tt
     named (Some n) = tt
 
+keys_right : (file key_file : List ℕ) → IsRight (keys_of file key_file)
+keys_right file key_file = either (is_field file && is_field key_file) (Some (Keys file key_file)) None (λ t. tt) tt
+
+-- a command with two fields
+pair_right : (word first second : List ℕ) → IsRight (command_with None (word ∷ first ∷ second ∷ []))
+pair_right word first second =
+    let keys = cond (pointwise nat_eq word (codes "keys")) (keys_of first second) None in
+    let why = cond (pointwise nat_eq word (codes "why")) (why_of first second) keys in
+    let newkey = cond (pointwise nat_eq word (codes "newkey")) (newkey_of first second) why in
+    either (pointwise nat_eq word (codes "merge")) (merge_of first second) newkey (λ t. merge_right first second)
+    (either (pointwise nat_eq word (codes "newkey")) (newkey_of first second) why (λ t. newkey_right first second)
+    (either (pointwise nat_eq word (codes "why")) (why_of first second) keys (λ t. why_right first second)
+    (either (pointwise nat_eq word (codes "keys")) (keys_of first second) None (λ t. keys_right first second) tt)))
+
 make_with_right : (file key_file : List ℕ) (words : List (List ℕ)) → IsRight (make_with file key_file words)
 make_with_right file key_file [] = tt
 make_with_right file key_file (a ∷ []) = tt
@@ -96,10 +111,7 @@ module _ (words : List (List ℕ)) (act : Option Act) where
   with_right [] is = tt
   with_right (a ∷ []) is = tt
   with_right (a ∷ b ∷ []) is = either (is_field b) (report_of a b) None (λ t. report_right a b) tt
-  with_right (a ∷ b ∷ c ∷ []) is =
-      either (pointwise nat_eq a (codes "merge")) (merge_of b c) (cond (pointwise nat_eq a (codes "newkey")) (newkey_of b c) (cond (pointwise nat_eq a (codes "why")) (why_of b c) None)) (λ t. merge_right b c)
-      (either (pointwise nat_eq a (codes "newkey")) (newkey_of b c) (cond (pointwise nat_eq a (codes "why")) (why_of b c) None) (λ t. newkey_right b c)
-      (either (pointwise nat_eq a (codes "why")) (why_of b c) None (λ t. why_right b c) tt))
+  with_right (a ∷ b ∷ c ∷ []) is = pair_right a b c
   with_right (a ∷ b ∷ c ∷ d ∷ more) is = keyed_right a b c (d ∷ more) is
 
 pub words_right : {words : List (List ℕ)} {command : Option Command} → IsCommandOf words command → IsRight command

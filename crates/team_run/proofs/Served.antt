@@ -11,6 +11,7 @@ use Rattle.lms_keep.specs.Signing.{tree_key}
 use Rattle.lms_keep.specs.declared.key_state.KeyState.{KeyState}
 use Rattle.link_text.specs.declared.draft.Draft.{Draft}
 use Rattle.link_graph.specs.Held.{Held}
+use Rattle.lockboxes.specs.Keeping.{Keeper}
 use Rattle.openers.specs.Key.{FindsKey}
 use Rattle.openers.specs.Team.{FindsTeam}
 use Rattle.team_author.specs.Planning.{planned}
@@ -25,12 +26,13 @@ use Rattle.outcomes.specs.Ending.{IsCaused, Runs}
 use Rattle.outcomes.specs.Refusing.{FindsBytes, FindsNone, holds, opening}
 use Rattle.outcomes.specs.Seeing.{AreKnown, Contents, Counts, Rises}
 use Rattle.outcomes.specs.Steps.{World, Outcome, saying}
+use Rattle.report_commands.specs.Keys.{IsKeysSaid}
 use Rattle.report_commands.specs.Why.{explaining, not_held}
 use Rattle.team_report.specs.HeadsText.{heads_text}
 use Rattle.team_report.specs.LogText.{log_text}
 use Rattle.team_report.specs.WhyText.{link_named, why_text}
 use Rattle.team_words.specs.declared.command.Command.{Command}
-use Rattle.team_words.specs.declared.command.Command.TheVariants.{Heads, Log, Make, Merge, Newkey, Plain, Show, Why}
+use Rattle.team_words.specs.declared.command.Command.TheVariants.{Heads, Keys, Log, Make, Merge, Newkey, Plain, Show, Why}
 use Rattle.key_commands.specs.Make.{making_team}
 use Rattle.key_commands.specs.Newkey.{drawn_key, making}
 use Rattle.exchange_commands.specs.Merge.{merging}
@@ -69,15 +71,15 @@ why_status : (links : List Link) (found : Option Link) → (option_map_or (λ te
 why_status links None = refl
 why_status links (Some x) = refl
 
-pub ends_well : (public_of : List ℕ → List ℕ) (command : Command) (w : World) (o : Outcome) → Serves command w → does public_of command w o → EndsWell command w o.status
-ends_well public_of (Make file key_file user title) w o serves d =
-    let first = absent_opens file (λ none. opening FindsNone key_file (λ none. founds public_of file key_file user title)) w o serves.0 d in
-    let second = absent_opens key_file (λ none. founds public_of file key_file user title) w o serves.1 first.2 in
-    status_is o (making_team public_of file key_file title w.moment (drawn_key user w)) second.2
-ends_well public_of (Newkey key_file user) w o serves d =
-    let opened = absent_opens key_file (λ none w o. o ≡ making public_of key_file (drawn_key user w)) w o serves d in
-    status_is o (making public_of key_file (drawn_key user w)) opened.2
-ends_well public_of (Plain file key_file act) w o serves d =
+pub ends_well : (keeper : Keeper) (command : Command) (w : World) (o : Outcome) → Serves command w → does keeper command w o → EndsWell command w o.status
+ends_well keeper (Make file key_file user title) w o serves d =
+    let first = absent_opens file (λ none. opening FindsNone key_file (λ none. founds keeper.public_of file key_file user title)) w o serves.0 d in
+    let second = absent_opens key_file (λ none. founds keeper.public_of file key_file user title) w o serves.1 first.2 in
+    status_is o (making_team keeper.public_of file key_file title w.moment (drawn_key user w)) second.2
+ends_well keeper (Newkey key_file user) w o serves d =
+    let opened = absent_opens key_file (λ none w o. o ≡ making keeper.public_of key_file (drawn_key user w)) w o serves d in
+    status_is o (making keeper.public_of key_file (drawn_key user w)) opened.2
+ends_well keeper (Plain file key_file act) w o serves d =
     let plans = plain_plan act w.moment in
     let first = team_opens file (λ held. opening FindsKey key_file (λ s. keyed plans file key_file held s)) w o serves.0.0 serves.0.1 d.1 in
     let second = key_opens key_file (λ s. keyed plans file key_file first.0 s) w o serves.1.0 serves.1.1 serves.1.2 serves.1.3 first.4 in
@@ -88,7 +90,7 @@ ends_well public_of (Plain file key_file act) w o serves d =
       in_key_file = subst (λ (f : Option (List ℕ)). FindsKey f (holds second.0)) (sym second.2) second.3;
       ends = leaf_status file key_file first.0 second.0 w o act (nat_lt second.0.next (leaves second.0.lms)) second.4;
     }
-ends_well public_of (Merge file bundle) w o serves d =
+ends_well keeper (Merge file bundle) w o serves d =
     let first = team_opens file (λ held. opening FindsBytes bundle (λ given. merging file held given)) w o serves.0.0 serves.0.1 d in
     let second = there_opens bundle (λ given. merging file first.0 given) w o serves.1.0 serves.1.1 first.4 in
     let m = second.2 in
@@ -102,25 +104,30 @@ ends_well public_of (Merge file bundle) w o serves d =
       merged = record { old = first.0; held = first.3; intake = m.2 };
       ends = ap (λ (x : Outcome). x.status) m.3;
     }
-ends_well public_of (Show file) w o serves d =
+ends_well keeper (Show file) w o serves d =
     let opened = team_opens file (λ held w o. o ≡ saying 0 (show_text held.team held.links)) w o serves.0 serves.1 d in
     status_is o (saying 0 (show_text opened.0.team opened.0.links)) opened.4
-ends_well public_of (Log file) w o serves d =
+ends_well keeper (Log file) w o serves d =
     let opened = team_opens file (λ held w o. o ≡ saying 0 (log_text held.links)) w o serves.0 serves.1 d in
     status_is o (saying 0 (log_text opened.0.links)) opened.4
-ends_well public_of (Heads file) w o serves d =
+ends_well keeper (Heads file) w o serves d =
     let opened = team_opens file (λ held w o. o ≡ saying 0 (heads_text held.links)) w o serves.0 serves.1 d in
     status_is o (saying 0 (heads_text opened.0.links)) opened.4
-ends_well public_of (Why file name) w o serves d =
+ends_well keeper (Why file name) w o serves d =
     let opened = team_opens file (λ held w o. o ≡ explaining held.links name) w o serves.0 serves.1 d in
     record {
       held = opened.0;
       in_file = subst (λ (f : Option (List ℕ)). FindsTeam f (holds opened.0)) (sym opened.2) opened.3;
       ends = status_is o (explaining opened.0.links name) opened.4 ∙ why_status opened.0.links (link_named opened.0.links name);
     }
+ends_well keeper (Keys file key_file) w o serves d =
+    let first = team_opens file (λ held. opening FindsKey key_file (λ s. IsKeysSaid keeper held s)) w o serves.0.0 serves.0.1 d in
+    let second = key_opens key_file (λ s. IsKeysSaid keeper first.0 s) w o serves.1.0 serves.1.1 serves.1.2 serves.1.3 first.4 in
+    let said = second.4 in
+    status_is o (saying 0 said.text) said.said
 
 -- by the clauses of a run: its status is an outcome's, or a count rose, or memory was short
-module _ (public_of : List ℕ → List ℕ) (command : Command) (old new : Contents) (before now : Counts) (status : ℕ) (runs : Runs (does public_of command) old new status) (cause : IsCaused before now status) where
+module _ (keeper : Keeper) (command : Command) (old new : Contents) (before now : Counts) (status : ℕ) (runs : Runs (does keeper command) old new status) (cause : IsCaused before now status) where
   high : ¬ (Rises before now) → 5 ≤ status → (5 < status) ⊎ (status ≤ 5) → (w : World) → EndsWell command w status ⊎ (status ≡ 6)
   high calm least (inl more) w = let most = cause.range in inr (omega (arith, more, most))
   high calm least (inr most) w = absurd (calm (cause.fault (omega (arith, least, most))))
@@ -129,7 +136,7 @@ module _ (public_of : List ℕ → List ℕ) (command : Command) (old new : Cont
   by_status w is serves calm (inr least) = high calm least (cases_lt 5 status) w
   by_status w is serves calm (inl low) =
       let ran = runs.done w is low in
-      inl (subst (λ (n : ℕ). EndsWell command w n) (sym ran.2) (ends_well public_of command w ran.0 serves ran.1))
+      inl (subst (λ (n : ℕ). EndsWell command w n) (sym ran.2) (ends_well keeper command w ran.0 serves ran.1))
 
   pub complete : IsComplete command old before now status
   complete w is serves calm = by_status w is serves calm (cases_lt status 5)

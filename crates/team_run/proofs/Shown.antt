@@ -17,6 +17,7 @@ use Rattle.link_text.specs.declared.draft.Draft.{Draft}
 use Rattle.link_graph.specs.Held.{Held}
 use Rattle.link_intake.specs.Merged.{IsHeldIn}
 use Rattle.link_intake.specs.UnionLaws.{IsValidText}
+use Rattle.lockboxes.specs.Keeping.{Keeper}
 use Rattle.outcomes.specs.Refusing.{FindsBytes, holds, opening}
 use Rattle.outcomes.specs.Seeing.{AreKnown}
 use Rattle.outcomes.specs.Steps.{World, Outcome, after, saying}
@@ -52,9 +53,9 @@ text_held file_once of_set bytes a b x y =
     (of_set a.links b.links x.held.set y.held.set one.1).shown a.team ∙ ap (λ (t : Name). show_text t b.links) one.0
 
 pub show_prints : FileIsReadOnce → TextIsOfSet → ShowPrintsTeam
-show_prints file_once of_set public_of r name held is words there low =
+show_prints file_once of_set keeper r name held is words there low =
     let ran = is.done r.old (told_known r.old) low in
-    let does = does_of public_of r.words (Some (Show name)) words r.old ran.0 ran.1 in
+    let does = does_of keeper r.words (Some (Show name)) words r.old ran.0 ran.1 in
     let opened = team_opens name (λ held w o. o ≡ saying 0 (show_text held.team held.links)) r.old ran.0 held there does in
     let shown = opened.0 in
     let same = text_held file_once of_set opened.1 shown held opened.3.file
@@ -74,12 +75,12 @@ low_status : (status : ℕ) → Contains {X = ℕ} (0 ∷ 1 ∷ []) status → s
 low_status status among =
     All-contains (λ (n : ℕ). n < 5) (0 ∷ 1 ∷ []) status (All-from_recursion (λ (n : ℕ). n < 5) (0 ∷ 1 ∷ []) (omega arith, (omega arith, tt))) among
 
-module _ (public_of : List ℕ → List ℕ) (r : OneRun) (file bundle : List ℕ) (among : Contains {X = ℕ} (0 ∷ 1 ∷ []) r.status) (o : Outcome)
-    (does : does_run public_of r.words r.old o) (ends : r.status ≡ o.status) (left : AreKnown (told r.new) (after o.steps r.old)) where
-  not_said : IsSaid o → IsReplaced public_of r file
+module _ (keeper : Keeper) (r : OneRun) (file bundle : List ℕ) (among : Contains {X = ℕ} (0 ∷ 1 ∷ []) r.status) (o : Outcome)
+    (does : does_run keeper r.words r.old o) (ends : r.status ≡ o.status) (left : AreKnown (told r.new) (after o.steps r.old)) where
+  not_said : IsSaid o → IsReplaced keeper r file
   not_said said = absurd (never_three r.status among (ends ∙ ap (λ (x : Outcome). x.status) said.1))
 
-  by_bundle : (held : Held) → IsSaid o ⊎ ((given : List ℕ) × (fin.get r.old.files bundle ≡ Some given) × merging file held given r.old o) → IsReplaced public_of r file
+  by_bundle : (held : Held) → IsSaid o ⊎ ((given : List ℕ) × (fin.get r.old.files bundle ≡ Some given) × merging file held given r.old o) → IsReplaced keeper r file
   by_bundle held (inl said) = not_said said
   by_bundle held (inr (given, at, (new, results, intake, is))) = record {
     outcome = o;
@@ -89,19 +90,19 @@ module _ (public_of : List ℕ → List ℕ) (r : OneRun) (file bundle : List �
   }
 
   by_file : IsSaid o ⊎ ((held : Held) × (bytes : List ℕ) × (fin.get r.old.files file ≡ Some bytes) × IsHeldIn bytes held × opening FindsBytes bundle (λ given. merging file held given) r.old o)
-      → IsReplaced public_of r file
+      → IsReplaced keeper r file
   by_file (inl said) = not_said said
   by_file (inr (held, bytes, at, in_file, d)) = by_bundle held (there_or bundle (λ given. merging file held given) r.old o d)
 
 pub merge_done : MergeIsDone
-merge_done public_of r file bundle is words among =
+merge_done keeper r file bundle is words among =
     let ran = is.done r.old (told_known r.old) (low_status r.status among) in
-    let does = does_of public_of r.words (Some (Merge file bundle)) words r.old ran.0 ran.1 in
-    by_file public_of r file bundle among ran.0 ran.1 ran.2 ran.3 (team_or file (λ held. opening FindsBytes bundle (λ given. merging file held given)) r.old ran.0 does)
+    let does = does_of keeper r.words (Some (Merge file bundle)) words r.old ran.0 ran.1 in
+    by_file keeper r file bundle among ran.0 ran.1 ran.2 ran.3 (team_or file (λ held. opening FindsBytes bundle (λ given. merging file held given)) r.old ran.0 does)
 
 -- a link that was signed is put into the file, where the run ends with 0
-module _ (file_once : FileIsReadOnce) (key_once : KeyIsSpelledOnce) (public_of : List ℕ → List ℕ) (r : OneRun) (file key_file : List ℕ) (act : Act)
-    (words : IsCommandOf r.words (Some (Plain file key_file act))) (zero : r.status ≡ 0) (o : Outcome) (does : does_run public_of r.words r.old o) (ends : r.status ≡ o.status)
+module _ (file_once : FileIsReadOnce) (key_once : KeyIsSpelledOnce) (keeper : Keeper) (r : OneRun) (file key_file : List ℕ) (act : Act)
+    (words : IsCommandOf r.words (Some (Plain file key_file act))) (zero : r.status ≡ 0) (o : Outcome) (does : does_run keeper r.words r.old o) (ends : r.status ≡ o.status)
     (left : AreKnown (told r.new) (after o.steps r.old)) where
   abbrev plans : Held → KeyState → Planned → Type 0
   plans = plain_plan act r.old.moment
@@ -138,7 +139,7 @@ module _ (file_once : FileIsReadOnce) (key_once : KeyIsSpelledOnce) (public_of :
     text_valid : IsValidText held.team (text link)
     text_valid = (link, signed_valid held key draft opened.is_key.range opened.leaf (sound held key (Writes draft) opened.in_file.file.held opened.is_key.range opened.planned))
 
-    signed_put : IsPut public_of r file
+    signed_put : IsPut keeper r file
     signed_put =
         let there : HoldsTeam r.old.files file held = (opened.bytes, opened.there, opened.in_file.file) in
         let grown = authored_grows file_once key_once plans file key_file r.old file o o.steps [] (sym (append-nil o.steps)) replaces (one_plan act r.old.moment) sound held there plain.1 in
@@ -154,20 +155,20 @@ module _ (file_once : FileIsReadOnce) (key_once : KeyIsSpelledOnce) (public_of :
           has = (grown.2.texts (text link)).1 (inr ((refl, given), text_valid));
         }
 
-  by_signing : plains file key_file act r.old o → IsRefused o ⊎ IsSigned plans file key_file r.old o → IsPut public_of r file
+  by_signing : plains file key_file act r.old o → IsRefused o ⊎ IsSigned plans file key_file r.old o → IsPut keeper r file
   by_signing plain (inl refused) =
       let same : r.status ≡ refused.0 = ends ∙ ap (λ (x : Outcome). x.status) refused.3 in
       let high = refused.2 in absurd (omega (arith, same, high, zero))
   by_signing plain (inr (held, key, draft, opened, is)) = signed_put plain held key draft opened is
 
 pub plain_done : FileIsReadOnce → KeyIsSpelledOnce → PlainIsDone
-plain_done file_once key_once public_of r file key_file act is words zero =
+plain_done file_once key_once keeper r file key_file act is words zero =
     let ran = is.done r.old (told_known r.old) (omega (arith, zero)) in
-    let does = does_of public_of r.words (Some (Plain file key_file act)) words r.old ran.0 ran.1 in
-    by_signing file_once key_once public_of r file key_file act words zero ran.0 ran.1 ran.2 ran.3 does (signed_or (plain_plan act r.old.moment) file key_file r.old ran.0 does.1)
+    let does = does_of keeper r.words (Some (Plain file key_file act)) words r.old ran.0 ran.1 in
+    by_signing file_once key_once keeper r file key_file act words zero ran.0 ran.1 ran.2 ran.3 does (signed_or (plain_plan act r.old.moment) file key_file r.old ran.0 does.1)
 
 pub show_after : FileIsReadOnce → TextIsOfSet → RunsLeaveUnion → ShowAfterRuns
-show_after file_once of_set union public_of files runs r name old are there apart fits is words low =
-    let left = union public_of files r.old.files runs name old are there apart fits in
-    let shown = show_prints file_once of_set public_of r name left.0 is words left.1 low in
+show_after file_once of_set union keeper files runs r name old are there apart fits is words low =
+    let left = union keeper files r.old.files runs name old are there apart fits in
+    let shown = show_prints file_once of_set keeper r name left.0 is words left.1 low in
     (left.0, left.2, shown.0, shown.1)

@@ -4,7 +4,7 @@ use Rattle.std.proofs.lemmas.List.Elements.{All-from_recursion}
 use Rattle.outcomes.specs.declared.answer.Answer.{Answer}
 use Rattle.outcomes.specs.Ending.{IsConcluded}
 use Rattle.team_words.specs.declared.command.Command.{Command}
-use Rattle.team_words.specs.declared.command.Command.TheVariants.{Heads, Log, Make, Merge, Newkey, Plain, Show, Why}
+use Rattle.team_words.specs.declared.command.Command.TheVariants.{Heads, Keys, Log, Make, Merge, Newkey, Plain, Show, Why}
 use Rattle.team_run.specs.Running.{statuses_of}
 
 -- where the answer's status is 2, the run ends with 2, unless it fails
@@ -20,4 +20,5 @@ never_two (Show file) = All-from_recursion (λ (n : ℕ). n ≢ 2) (0 ∷ 3 ∷ 
 never_two (Log file) = All-from_recursion (λ (n : ℕ). n ≢ 2) (0 ∷ 3 ∷ []) (λ e. omega (arith, e), (λ e. omega (arith, e), tt))
 never_two (Heads file) = All-from_recursion (λ (n : ℕ). n ≢ 2) (0 ∷ 3 ∷ []) (λ e. omega (arith, e), (λ e. omega (arith, e), tt))
 never_two (Why file name) = All-from_recursion (λ (n : ℕ). n ≢ 2) (0 ∷ 3 ∷ 4 ∷ []) (λ e. omega (arith, e), (λ e. omega (arith, e), (λ e. omega (arith, e), tt)))
+never_two (Keys file key_file) = All-from_recursion (λ (n : ℕ). n ≢ 2) (0 ∷ 3 ∷ []) (λ e. omega (arith, e), (λ e. omega (arith, e), tt))
 never_two (Plain file key_file act) = All-from_recursion (λ (n : ℕ). n ≢ 2) (0 ∷ 3 ∷ 4 ∷ []) (λ e. omega (arith, e), (λ e. omega (arith, e), (λ e. omega (arith, e), tt)))

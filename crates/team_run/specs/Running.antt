@@ -1,37 +1,40 @@
 -- What a run does, by its words.
 use Rattle.std.specs.Prelude.{◌≡◌, ℕ, List, [], ◌∷◌, Option, Some, None, codes}
+use Rattle.lockboxes.specs.Keeping.{Keeper}
 use Rattle.outcomes.specs.Steps.{World, Outcome, saying}
 use Rattle.team_words.specs.declared.command.Command.{Command}
-use Rattle.team_words.specs.declared.command.Command.TheVariants.{Heads, Log, Make, Merge, Newkey, Plain, Show, Why}
+use Rattle.team_words.specs.declared.command.Command.TheVariants.{Heads, Keys, Log, Make, Merge, Newkey, Plain, Show, Why}
 use Rattle.team_words.specs.Words.{IsCommandOf}
 use Rattle.author_commands.specs.Plain.{plains}
 use Rattle.key_commands.specs.Make.{makes}
 use Rattle.key_commands.specs.Newkey.{newkeys}
 use Rattle.exchange_commands.specs.Merge.{merges}
 use Rattle.report_commands.specs.Heads.{lists_heads}
+use Rattle.report_commands.specs.Keys.{lists_keys}
 use Rattle.report_commands.specs.Log.{logs}
 use Rattle.report_commands.specs.Show.{shows}
 use Rattle.report_commands.specs.Why.{explains}
 
--- what each command does. `public_of` gives the public key of a sealing secret
-abbrev pub does : (List ℕ → List ℕ) → Command → World → Outcome → Type 0
-does public_of (Make file key_file user title) = makes public_of file key_file user title
-does public_of (Newkey key_file user) = newkeys public_of key_file user
-does public_of (Plain file key_file act) = plains file key_file act
-does public_of (Merge file bundle) = merges file bundle
-does public_of (Show file) = shows file
-does public_of (Log file) = logs file
-does public_of (Heads file) = lists_heads file
-does public_of (Why file name) = explains file name
+-- what each command does. The keeper gives the public key of a sealing secret, and opens boxes
+abbrev pub does : Keeper → Command → World → Outcome → Type 0
+does keeper (Make file key_file user title) = makes keeper.public_of file key_file user title
+does keeper (Newkey key_file user) = newkeys keeper.public_of key_file user
+does keeper (Plain file key_file act) = plains file key_file act
+does keeper (Merge file bundle) = merges file bundle
+does keeper (Show file) = shows file
+does keeper (Log file) = logs file
+does keeper (Heads file) = lists_heads file
+does keeper (Why file name) = explains file name
+does keeper (Keys file key_file) = lists_keys keeper file key_file
 
 -- words that are no command print a line
-abbrev pub does_words : (List ℕ → List ℕ) → Option Command → World → Outcome → Type 0
-does_words public_of None w o = o ≡ saying 2 (codes "usage\n")
-does_words public_of (Some command) w o = does public_of command w o
+abbrev pub does_words : Keeper → Option Command → World → Outcome → Type 0
+does_words keeper None w o = o ≡ saying 2 (codes "usage\n")
+does_words keeper (Some command) w o = does keeper command w o
 
 -- what a run does: what the command does that the words are
-abbrev pub does_run : (List ℕ → List ℕ) → List (List ℕ) → World → Outcome → Type 0
-does_run public_of words w o = (command : Option Command) × IsCommandOf words command × does_words public_of command w o
+abbrev pub does_run : Keeper → List (List ℕ) → World → Outcome → Type 0
+does_run keeper words w o = (command : Option Command) × IsCommandOf words command × does_words keeper command w o
 
 -- the statuses below 5 with which a command can end: only one that gives items can end with 1
 abbrev pub statuses_of : Command → List ℕ
@@ -43,3 +46,4 @@ statuses_of (Show file) = 0 ∷ 3 ∷ []
 statuses_of (Log file) = 0 ∷ 3 ∷ []
 statuses_of (Heads file) = 0 ∷ 3 ∷ []
 statuses_of (Why file name) = 0 ∷ 3 ∷ 4 ∷ []
+statuses_of (Keys file key_file) = 0 ∷ 3 ∷ []

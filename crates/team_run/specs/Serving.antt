@@ -14,11 +14,12 @@ use Rattle.link_graph.specs.Held.{Held}
 use Rattle.link_intake.specs.declared.item_result.ItemResult.{ItemResult}
 use Rattle.link_intake.specs.Merged.{IsMerged}
 use Rattle.link_intake.specs.ResultsText.{results_status}
+use Rattle.lockboxes.specs.Keeping.{Keeper}
 use Rattle.outcomes.specs.Refusing.{holds}
 use Rattle.outcomes.specs.Seeing.{AreKnown, Contents, Counts, Rises}
 use Rattle.outcomes.specs.Steps.{World, Outcome}
 use Rattle.team_words.specs.declared.command.Command.{Command}
-use Rattle.team_words.specs.declared.command.Command.TheVariants.{Heads, Log, Make, Merge, Newkey, Plain, Show, Why}
+use Rattle.team_words.specs.declared.command.Command.TheVariants.{Heads, Keys, Log, Make, Merge, Newkey, Plain, Show, Why}
 use Rattle.openers.specs.Key.{FindsKey}
 use Rattle.openers.specs.Team.{FindsTeam}
 use Rattle.team_report.specs.WhyText.{link_named}
@@ -55,6 +56,7 @@ Serves (Show file) w = IsTeamFile w file
 Serves (Log file) w = IsTeamFile w file
 Serves (Heads file) w = IsTeamFile w file
 Serves (Why file name) w = IsTeamFile w file
+Serves (Keys file key_file) w = IsTeamFile w file × IsKeyThere w key_file
 
 -- The bundle is merged into the file, and the status is 1 exactly where an item of it is refused, else 0.
 pub record EndsByItems (w : World) (file bundle : List ℕ) (status : ℕ) : Type 0 where
@@ -105,10 +107,11 @@ EndsWell (Show file) w status = status ≡ 0
 EndsWell (Log file) w status = status ≡ 0
 EndsWell (Heads file) w status = status ≡ 0
 EndsWell (Why file name) w status = EndsByName w file name status
+EndsWell (Keys file key_file) w status = status ≡ 0
 
 -- a command whose files are so does all, and refuses nothing but items
 abbrev pub ServedEndWell : Type 0
-ServedEndWell = (public_of : List ℕ → List ℕ) (command : Command) (w : World) (o : Outcome) → Serves command w → does public_of command w o → EndsWell command w o.status
+ServedEndWell = (keeper : Keeper) (command : Command) (w : World) (o : Outcome) → Serves command w → does keeper command w o → EndsWell command w o.status
 
 -- Where the files of a command are so, and no count of faults rises, its run ends well, or for want of memory.
 abbrev pub IsComplete : Command → Contents → Counts → Counts → ℕ → Type 0

@@ -15,5 +15,5 @@ pub use laws::{
     make_begins_team, merge_is_done, plain_is_done, runs_in_any_order, runs_leave_union,
     served_end_well, show_after_runs, show_prints_team, teams_are_begun,
 };
-pub use report_commands::{run_heads, run_log, run_show, run_why};
+pub use report_commands::{run_heads, run_keys, run_log, run_show, run_why};
 pub use running::{run, run_command};

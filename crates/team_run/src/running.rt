@@ -1,4 +1,5 @@
 ghost use Rattle.std.specs.Prelude.{◌≡◌, ◌≢◌, ◌<◌, map, None, Some, Contains, Err, IfSome, string_bytes, codes};
+ghost use Rattle.lockboxes.specs.Keeping.{Keeper};
 ghost use Rattle.outcomes.specs.Seeing.{contents_of, counts_of};
 ghost use Rattle.outcomes.specs.Ending.{IsCaused, Runs, answer_of};
 ghost use Rattle.team_words.specs.Words.{IsCommandOf};
@@ -15,7 +16,7 @@ use exchange_commands::run_merge;
 use key_commands::{run_make, run_newkey};
 use lockboxes::Sealer;
 use outcomes::{Answer, NO_MEMORY, Stop, USAGE, conclude};
-use report_commands::{run_heads, run_log, run_show, run_why};
+use report_commands::{run_heads, run_keys, run_log, run_show, run_why};
 use std::alloc::Global;
 use team_words::{Command, command_of};
 use tg_outside::{Clock, Entropy, Files, Sink, Source, StepLedger, Steps};
@@ -34,7 +35,8 @@ pub fn run<F: Files, E: Entropy, C: Clock, I: Source, O: Sink, K: Sealer, L: Ste
     sealer: &K,
     steps: &mut Steps<L>,
 ) -> u8
-    ensures runs { Runs (does_run K.public (map string_bytes words.now))
+    ensures runs { let keeper : Keeper = record { public_of = K.public; unseal = K.opened } in
+        Runs (does_run keeper (map string_bytes words.now))
         (contents_of F.files E.left C.moment I.left O.taken files.old entropy.old clock.old input.old out.old)
         (contents_of F.files E.left C.moment I.left O.taken files.new entropy.new clock.new input.new out.new) result }
     ensures cause { IsCaused (counts_of F.faults E.faults I.faults O.faults files.old entropy.old input.old out.old)
@@ -84,7 +86,8 @@ pub fn run_command<F: Files, E: Entropy, C: Clock, I: Source, O: Sink, K: Sealer
     sealer: &K,
     steps: &mut Steps<L>,
 ) -> u8
-    ensures runs { Runs (does K.public command.now)
+    ensures runs { let keeper : Keeper = record { public_of = K.public; unseal = K.opened } in
+        Runs (does keeper command.now)
         (contents_of F.files E.left C.moment I.left O.taken files.old entropy.old clock.old input.old out.old)
         (contents_of F.files E.left C.moment I.left O.taken files.new entropy.new clock.new input.new out.new) result }
     ensures cause { IsCaused (counts_of F.faults E.faults I.faults O.faults files.old entropy.old input.old out.old)
@@ -129,6 +132,11 @@ pub fn run_command<F: Files, E: Entropy, C: Clock, I: Source, O: Sink, K: Sealer
         }
         Command::Why { .. } => {
             run_why(
+                alloc, command, files, entropy, clock, input, out, sealer, steps,
+            )
+        }
+        Command::Keys { .. } => {
+            run_keys(
                 alloc, command, files, entropy, clock, input, out, sealer, steps,
             )
         }

@@ -6,7 +6,7 @@ use Rattle.std.specs.Cmp.Lexicographic.{pointwise}
 use Rattle.hex.specs.Hex.{decode_sized}
 use Rattle.hex.specs.declared.error.FromHexError.{FromHexError}
 use Rattle.team_words.specs.declared.command.Command.{Command}
-use Rattle.team_words.specs.declared.command.Command.TheVariants.{Heads, Log, Make, Merge, Newkey, Plain, Show, Why}
+use Rattle.team_words.specs.declared.command.Command.TheVariants.{Heads, Keys, Log, Make, Merge, Newkey, Plain, Show, Why}
 use Rattle.acts.specs.declared.entry.Act.{Act}
 use Rattle.team_words.specs.Acts.{IsActOf}
 use Rattle.tg_text.specs.Spelling.{is_printing, is_user_name, spell_hex}
@@ -46,6 +46,9 @@ hash_of word = spelled_by word (decode_sized word 32)
 abbrev pub why_of : List ℕ → List ℕ → Option Command
 why_of file name = cond (is_field file) (option_map (Why file) (hash_of name)) None
 
+abbrev pub keys_of : List ℕ → List ℕ → Option Command
+keys_of file key_file = cond (is_field file && is_field key_file) (Some (Keys file key_file)) None
+
 -- a command with a file alone
 abbrev pub report_of : List ℕ → List ℕ → Option Command
 report_of word file =
@@ -76,7 +79,8 @@ abbrev pub command_with : Option Act → List (List ℕ) → Option Command
 command_with act (word ∷ file ∷ []) = cond (is_field file) (report_of word file) None
 command_with act (word ∷ first ∷ second ∷ []) =
     cond (pointwise nat_eq word (codes "merge")) (merge_of first second)
-    (cond (pointwise nat_eq word (codes "newkey")) (newkey_of first second) (cond (pointwise nat_eq word (codes "why")) (why_of first second) None))
+    (cond (pointwise nat_eq word (codes "newkey")) (newkey_of first second)
+    (cond (pointwise nat_eq word (codes "why")) (why_of first second) (cond (pointwise nat_eq word (codes "keys")) (keys_of first second) None)))
 command_with act (word ∷ file ∷ key_file ∷ w ∷ ws) = keyed_with act word file key_file (w ∷ ws)
 command_with act words = None
 
@@ -127,3 +131,7 @@ IsHeads _ = ⊥
 abbrev pub IsWhy : Command → Type 0
 IsWhy (Why file name) = Unit {0}
 IsWhy _ = ⊥
+
+abbrev pub IsKeys : Command → Type 0
+IsKeys (Keys file key_file) = Unit {0}
+IsKeys _ = ⊥

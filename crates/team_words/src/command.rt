@@ -1,5 +1,5 @@
 ghost use Rattle.std.specs.Prelude.{◌≡◌, ◌∷◌, ◌&&◌, [], cond, map, Option, None, Some, IfOk, string_bytes};
-ghost use Rattle.team_words.specs.Words.{IsCommandOf, IsKeyedBy, are_two_files, command_with, hash_of, is_field, is_title, make_of, make_with, merge_of, newkey_of, plain_of, report_of, why_of};
+ghost use Rattle.team_words.specs.Words.{IsCommandOf, IsKeyedBy, are_two_files, command_with, hash_of, is_field, is_title, keys_of, make_of, make_with, merge_of, newkey_of, plain_of, report_of, why_of};
 
 use crate::field::{are_fields, is_field};
 use crate::given::GivenAct;
@@ -49,6 +49,11 @@ pub enum Command {
     Why {
         file: Word,
         name: LinkName,
+    },
+    /// Prints the keys that the device of a key file opens in the team of a file.
+    Keys {
+        file: Word,
+        key_file: Word,
     },
 }
 
@@ -229,6 +234,9 @@ fn pair_of(alloc: Global, word: &str, first: &str, second: &str) -> Result<Optio
     if word == "why" {
         return why_of(alloc, first, second);
     }
+    if word == "keys" {
+        return keys_of(alloc, first, second);
+    }
     Ok(None)
 }
 
@@ -271,6 +279,17 @@ fn why_of(alloc: Global, file: &str, name: &str) -> Result<Option<Command>, Memo
         }
         None => Ok(None),
     }
+}
+
+fn keys_of(alloc: Global, file: &str, key_file: &str) -> Result<Option<Command>, Memory>
+    ensures { IfOk result (λ found. found ≡ keys_of file.now key_file.now) }
+{
+    if is_field(file) && is_field(key_file) {
+        let file = Word::new(alloc, file)?;
+        let key_file = Word::new(alloc, key_file)?;
+        return Ok(Some(Command::Keys { file, key_file }));
+    }
+    Ok(None)
 }
 
 // The name of a link that a word spells.

@@ -1,6 +1,7 @@
 use Rattle.std.proofs.Common.{◌≡◌, ◌≢◌, ℕ, Contains, Global, None, Some, arith, codes, map, refl, string_bytes, subst}
 use Rattle.std.proofs.lemmas.List.Elements.{All-contains}
 use Rattle.std.proofs.lemmas.Option.{IfSome_then}
+use Rattle.lockboxes.specs.Keeping.{Keeper}
 use Rattle.outcomes.specs.Ending.{answer_of}
 use Rattle.outcomes.specs.Seeing.{contents_of, counts_of}
 use Rattle.outcomes.specs.Steps.{World, Outcome, saying}
@@ -29,19 +30,21 @@ returns-in-Ok-Some-clause-statuses g c = λ other more low.
 
 pub returns-in-Ok-Some-clause-runs : goal.returns-in-Ok-Some-clause-runs
 returns-in-Ok-Some-clause-runs g c =
+    let keeper : Keeper = record { public_of = g.K.Sealer.public; unseal = g.K.Sealer.opened } in
     let is = rw c.in-Ok-Some.field-0-is at c.in-Ok-Some.ensures in
     let new = c.run_command.new in
     let old = contents_of g.F.Files.files g.E.Entropy.left g.C.Clock.moment g.I.Source.left g.O.Sink.taken c.args.files.now c.args.entropy.now c.args.clock.now c.args.input.now c.args.out.now in
     let left = contents_of g.F.Files.files g.E.Entropy.left g.C.Clock.moment g.I.Source.left g.O.Sink.taken new.files new.entropy new.clock new.input new.out in
-    runs_words g.K.Sealer.public (map (string_bytes {Z = Global}) c.args.words.now) (Some c.in-Ok-Some.command) is old left c.run_command.result c.run_command.ensures.runs
+    runs_words keeper (map (string_bytes {Z = Global}) c.args.words.now) (Some c.in-Ok-Some.command) is old left c.run_command.result c.run_command.ensures.runs
 
 pub returns-in-Ok-None-clause-runs : goal.returns-in-Ok-None-clause-runs
 returns-in-Ok-None-clause-runs g c =
+    let keeper : Keeper = record { public_of = g.K.Sealer.public; unseal = g.K.Sealer.opened } in
     let is = rw c.in-Ok-None.field-0-is at c.in-Ok-None.ensures in
     let does = λ (w : World) (o : Outcome). o ≡ saying 2 (codes "usage\n") in
     let old = contents_of g.F.Files.files g.E.Entropy.left g.C.Clock.moment g.I.Source.left g.O.Sink.taken c.args.files.now c.args.entropy.now c.args.clock.now c.args.input.now c.args.out.now in
     let left = record old { taken = g.O.Sink.taken c.conclude.new.out } in
-    runs_words g.K.Sealer.public (map (string_bytes {Z = Global}) c.args.words.now) None is old left c.conclude.result
+    runs_words keeper (map (string_bytes {Z = Global}) c.args.words.now) None is old left c.conclude.result
     (runs_concluded does old old _ _ c.usage.result c.conclude.result c.conclude.ensures.concluded
     (body_says does old old c.usage.result (λ w is. is) (λ w is. IfSome_then (answer_of c.usage.result) c.usage.ensures.said (λ a h. rw (h.0, h.1) refl))))
 
@@ -64,6 +67,7 @@ returns-in-Ok-None-clause-complete g c = λ command is. absurd (not_none _ comma
 
 pub returns-in-Ok-Some-clause-complete : goal.returns-in-Ok-Some-clause-complete
 returns-in-Ok-Some-clause-complete g c = λ other more.
+    let keeper : Keeper = record { public_of = g.K.Sealer.public; unseal = g.K.Sealer.opened } in
     let is = rw c.in-Ok-Some.field-0-is at c.in-Ok-Some.ensures in
     let command = c.in-Ok-Some.command in
     let new = c.run_command.new in
@@ -72,7 +76,7 @@ returns-in-Ok-Some-clause-complete g c = λ other more.
     let before = counts_of g.F.Files.faults g.E.Entropy.faults g.I.Source.faults g.O.Sink.faults c.args.files.now c.args.entropy.now c.args.input.now c.args.out.now in
     let now = counts_of g.F.Files.faults g.E.Entropy.faults g.I.Source.faults g.O.Sink.faults new.files new.entropy new.input new.out in
     subst (λ (x : Command). IsComplete x old before now c.run_command.result) (same_command _ command is other more)
-    (complete g.K.Sealer.public command old left before now c.run_command.result c.run_command.ensures.runs c.run_command.ensures.cause)
+    (complete keeper command old left before now c.run_command.result c.run_command.ensures.runs c.run_command.ensures.cause)
 
 pub returns-in-Err-clause-complete : goal.returns-in-Err-clause-complete
 returns-in-Err-clause-complete g c = λ command is. complete_short command _ _ _

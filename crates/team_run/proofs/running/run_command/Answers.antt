@@ -23,3 +23,6 @@ returns-in-Why-clause-runs g c = rw c.in-Why.is (rw c.in-Why.is at c.run_why.ens
 
 pub returns-in-Plain-clause-runs : goal.returns-in-Plain-clause-runs
 returns-in-Plain-clause-runs g c = rw c.in-Plain.is (rw c.in-Plain.is at c.run_plain.ensures.runs)
+
+pub returns-in-Keys-clause-runs : goal.returns-in-Keys-clause-runs
+returns-in-Keys-clause-runs g c = rw c.in-Keys.is (rw c.in-Keys.is at c.run_keys.ensures.runs)
