@@ -1,0 +1,9 @@
+pub mod PartLaws
+pub mod HashLines
+pub mod FileLaws
+pub mod TokenLaws
+pub mod ProofLaws
+pub mod UserFields
+pub mod Digests
+pub mod LeafLaws
+pub mod TokenLists

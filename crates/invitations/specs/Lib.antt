@@ -1,0 +1,5 @@
+pub mod FileLines
+pub mod TokenText
+pub mod ProofFile
+pub mod Making
+pub mod Parts
