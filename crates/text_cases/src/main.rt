@@ -10,13 +10,14 @@
 mod act_tables;
 mod cases;
 mod field_tables;
+mod invitation_tables;
 mod key_tables;
 mod tables;
 
 use cases::{agrees, table_of};
 use std::fs;
 
-const FILES: [&str; 3] = ["fields.txt", "acts.txt", "keys.txt"];
+const FILES: [&str; 4] = ["fields.txt", "acts.txt", "keys.txt", "invitations.txt"];
 
 fn main(rt: HostRuntime) -> Result<(), anyhow::Error> {
     for file in FILES {

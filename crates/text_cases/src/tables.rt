@@ -1,4 +1,4 @@
-use crate::{act_tables, field_tables, key_tables};
+use crate::{act_tables, field_tables, invitation_tables, key_tables};
 use std::alloc::Global;
 use tg_text::{Bytes, Memory};
 
@@ -23,6 +23,11 @@ pub fn written(alloc: Global, table: &str, text: &[u8]) -> Result<Option<Bytes>,
         "device" => act_tables::device(alloc, text),
         "key_file" => key_tables::key_file(alloc, text),
         "tree" => key_tables::tree(alloc, text),
+        "token_file" => invitation_tables::token_file(alloc, text),
+        "made_token" => invitation_tables::made_token(alloc, text),
+        "token_changed" => invitation_tables::token_changed(alloc, text),
+        "proof_file" => invitation_tables::proof_file(alloc, text),
+        "made_proof" => invitation_tables::made_proof(alloc, text),
         _ => says(alloc, "no such table"),
     }
 }
