@@ -10,7 +10,7 @@ use Rattle.team_model.specs.Judging.{name_of, team, team_rules}
 use Rattle.team_model.specs.KeyLines.{has_next, may_rekey, taken_boxes, taken_news, wants_key, with_news}
 use Rattle.team_model.specs.KeyTables.{key_table}
 use Rattle.team_model.specs.Limits.{most_boxes}
-use Rattle.team_model.specs.State.{State, lists_device}
+use Rattle.team_model.specs.State.{State, empty_state, lists_device}
 use Rattle.team_model.specs.declared.terms.Link.{Link}
 use Rattle.team_reducer.specs.Sound.{made_by}
 use Rattle.team_plans.specs.Plans.{due, effected, ends_of, plan_news, plan_scopes}
@@ -35,6 +35,10 @@ module _ (s : State) (e : Entry) where
     pub rekeys : (c : Scope) → is_live (key_table (effected s e)) c ≡ true → wants_key (effected s e) c ≡ true → may_rekey (effected s e) e c ≡ true
     pub nexts : (c : Scope) → is_live (key_table (effected s e)) c ≡ true → wants_key (effected s e) c ≡ true → has_next (effected s e) c ≡ true
     pub room : length s.boxes + length e.lines.boxes ≤ most_boxes
+
+-- so it is before a team is founded
+abbrev pub NothingIsSettled : Type 0
+NothingIsSettled = IsSettled empty_state
 
 -- a plan leaves no debt, and no box lacks: in every state that entries make
 abbrev pub PlansOweNothing : Type 0

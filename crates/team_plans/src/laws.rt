@@ -1,12 +1,14 @@
 //! Laws on plans. The functions do nothing.
 ghost use Rattle.team_plans.specs.OwingLaws.{OwesAsDebtsSay};
-ghost use Rattle.team_plans.specs.PlanLaws.{PlannedLinesFit, PlansInTeamsOweNothing, PlansOweNothing};
+ghost use Rattle.team_plans.specs.PlanLaws.{NothingIsSettled, PlannedLinesFit, PlansInTeamsOweNothing, PlansOweNothing};
 ghost use Rattle.team_plans.specs.Renaming.{PlansAreAlike};
 ghost use Rattle.team_plans.specs.Touching.{PlansFewKeys, TaintsOneUser};
 
 /// A planned act leaves a team without debts, and without a box that lacks, where it was so before, the author's device stays listed,
-/// the author may give a next key to each scope that is left without a clean one, and there is room for the boxes.
+/// the author may give a next key to each scope that is left without a clean one, and there is room for the boxes. It is so before a
+/// team is founded.
 pub fn plans_owe_nothing()
+    ensures start { NothingIsSettled }
     ensures states { PlansOweNothing }
     ensures teams { PlansInTeamsOweNothing }
 {}
