@@ -27,7 +27,8 @@ fn refusal_of(fault: &TakeFault) -> Result<ItemResult, Memory>
     }
 }
 
-fn result_of(answer: &Result<Took, TakeFault>) -> Result<ItemResult, Memory>
+/// What became of a text, by what a graph or another keeper of links answers to it. The answer to want of memory is no result.
+pub fn result_of(answer: &Result<Took, TakeFault>) -> Result<ItemResult, Memory>
     ensures some { IfOk result (λ became. result_of answer.now ≡ Some became) }
     ensures none { OnErr result (result_of answer.now ≡ None) }
 {

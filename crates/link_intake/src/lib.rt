@@ -11,7 +11,7 @@ mod item_result;
 mod laws;
 mod printing;
 
-pub use giving::{give_bundle, give_items};
+pub use giving::{give_bundle, give_items, result_of};
 pub use item_result::{ItemResult, Refusal};
 pub use laws::{bundle_is_given_once, items_are_given_once, merge_is_union, merges_in_any_order};
 pub use printing::{results_status, results_text};

@@ -30,5 +30,6 @@ pub use naming::name_of;
 pub use of_team::{is_of_team, read_named_of_team, read_of_team};
 pub use proving::{proves, read_link};
 pub use reading::read_text;
+pub use rules::ascends;
 pub use team_model::Link;
 pub use writing::{body_of, finish, write_link};

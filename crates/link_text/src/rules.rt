@@ -49,8 +49,8 @@ fn is_read_yet(act: &Act) -> bool
     }
 }
 
-// Whether each name is before the next.
-fn ascends(names: &[LinkName]) -> bool
+/// Whether each name is before the next.
+pub fn ascends(names: &[LinkName]) -> bool
     ensures { IsTrue result ↔ Ascends names.now }
 {
     for i in 1..names.len() {

@@ -24,6 +24,7 @@ mod writing;
 pub use bundle::{Bundle, read_items};
 pub use bundle_laws::{bundle_is_read_once, pieces_do_not_matter};
 pub use fault::FileFault;
+pub use frames::split_frame;
 pub use holding::read_graph;
 pub use item::Item;
 pub use laws::file_is_read_once;

@@ -18,6 +18,7 @@ mod rows;
 
 pub use applying::apply;
 pub use laws::{rules_are_lawful, states_are_sound, teams_are_sound};
+pub use news::{is_rotated, may_rekey, wants_key};
 pub use permitting::permits;
 pub use team_model::Reason;
 pub use team_state::TeamState;

@@ -81,7 +81,9 @@ fn is_next(state: &TeamState, key: &KeyId) -> bool
     u32::from(key.generation) == next && next <= u32::from(LAST_GENERATION)
 }
 
-fn may_rekey(state: &TeamState, entry: &Entry, scope: &Scope) -> bool
+/// Whether the author may bring a next key of a scope: an admin each, a device those of the scopes to which it is entitled, and
+/// whoever brings a user in that user's.
+pub fn may_rekey(state: &TeamState, entry: &Entry, scope: &Scope) -> bool
     ensures { result ≡ lines.may_rekey state.now entry.now scope.now }
 {
     state.is_admin(&entry.user) || entitled(state, &entry.device, scope) || is_brought(entry, scope)
@@ -108,8 +110,8 @@ fn brings_user(entry: &Entry, user: &UserName) -> bool
     }
 }
 
-// Whether a scope never had a key, or has a tainted one.
-fn wants_key(state: &TeamState, tainted: &[KeyId], scope: &Scope) -> bool
+/// Whether a scope never had a key, or has a tainted one. `tainted` are the tainted keys of the state.
+pub fn wants_key(state: &TeamState, tainted: &[KeyId], scope: &Scope) -> bool
     requires { IsListOf key_cmp (words.tainted (key_table state.now)) tainted.now }
     ensures { result ≡ lines.wants_key state.now scope.now }
 {
@@ -127,7 +129,8 @@ pub(crate) fn is_among(keys: &[KeyId], key: &KeyId) -> bool
     is_member(keys, key)
 }
 
-fn is_rotated(act: &Act, scope: &Scope) -> bool
+/// Whether an act rotates the scope.
+pub fn is_rotated(act: &Act, scope: &Scope) -> bool
     ensures { result ≡ lines.is_rotated act.now scope.now }
 {
     match act {
