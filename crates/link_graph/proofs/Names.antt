@@ -92,6 +92,17 @@ sizes_at [] k n t e = absurd (let bad : ◌≡◌ {A = Option (Name × List ℕ)
 sizes_at (x ∷ xs) zero n t e = let same : ◌≡◌ {A = Name × List ℕ} (text_entry x) (n, t) = cc in ap (λ (p : Name × List ℕ). Some (length p.1)) same
 sizes_at (x ∷ xs) (suc k) n t e = sizes_at xs k n t e
 
+text_at_entry : (links : List Link) (k : ℕ) (n : Name) (t : List ℕ) → slice_get (map text_entry links) k ≡ Some (n, t) → option_map text (slice_get links k) ≡ Some t
+text_at_entry [] k n t e = absurd (let bad : ◌≡◌ {A = Option (Name × List ℕ)} None (Some (n, t)) = e in cc)
+text_at_entry (x ∷ xs) zero n t e = let same : ◌≡◌ {A = Name × List ℕ} (text_entry x) (n, t) = cc in ap (λ (p : Name × List ℕ). Some p.1) same
+text_at_entry (x ∷ xs) (suc k) n t e = text_at_entry xs k n t e
+
+-- the text of the link at a place
+pub text_at_place : (links : List Link) (entries : List (Name × List ℕ)) (k : ℕ) (n : Name) (t found : List ℕ) → entries ≡ map text_entry links
+    → slice_get entries k ≡ Some (n, t) → found ≡ t → option_map text (slice_get links k) ≡ Some found
+text_at_place links entries k n t found is at same =
+    text_at_entry links k n t (ap (λ (es : List (Name × List ℕ)). slice_get es k) (sym is) ∙ at) ∙ ap (λ (u : List ℕ). Some u) (sym same)
+
 -- how many bytes the text that came last has
 pub last_size : (links : List Link) (entries : List (Name × List ℕ)) (n : Name) (t : List ℕ) (size : ℕ) → entries ≡ map text_entry links
     → slice_get entries (length entries - 1) ≡ Some (n, t) → size ≡ length t → slice_get (map (λ (l : Link). length (text l)) links) (length links - 1) ≡ Some size

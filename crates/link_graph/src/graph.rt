@@ -7,6 +7,7 @@ ghost use Rattle.team_sets.specs.Order.{names};
 ghost use Rattle.team_model.specs.Judging.{name_of, order_of, prev_of};
 ghost use Rattle.link_text.specs.LinkText.{IsValid, text};
 ghost use Rattle.link_text.specs.TeamFile.{IsHeld, file_text};
+ghost use Rattle.link_graph.specs.Below.{AreBelow};
 ghost use Rattle.link_graph.specs.Causes.{IsCaused, IsRoomFault};
 ghost use Rattle.link_graph.specs.Heads.{heads_of};
 ghost use Rattle.link_graph.specs.Held.{answer_of, arrived_of};
@@ -16,6 +17,7 @@ ghost use Rattle.link_graph.specs.Positions.{at_places};
 ghost use Rattle.link_graph.specs.Taking.{Answers, HasSpace, HasText, IsFresh};
 ghost use Rattle.link_graph.specs.Webs.{without_last};
 
+use crate::below::find_below;
 use crate::connected::link_of;
 use crate::measuring::{frame_length, header_length};
 use crate::parentage::put_with_parents;
@@ -183,6 +185,23 @@ impl Graph {
         ensures { result.now ≡ heads_of self.now.links }
     {
         self.web.lineup.heads.as_slice()
+    }
+
+    /// The text of the link of a position.
+    pub fn text_at(&self, position: u32) -> &[u8]
+        requires given { position < length (arrived_of self.now.links) }
+        ensures { option_map text (slice_get (arrived_of self.now.links) position) ≡ Some result.now }
+    {
+        self.web.holding.text_at(self.place_at(position))
+    }
+
+    /// The positions of the connected links that have one of the names or are ancestors of one that has, without those that have
+    /// one of the other names or are ancestors of one that has, in the order of the team. A name that isn't connected gives
+    /// nothing.
+    pub fn below(&self, names: &[LinkName], not_below: &[LinkName]) -> Result<Vec<u32>, Memory>
+        ensures { IfOk result (λ positions. AreBelow self.now.links names.now not_below.now positions.items) }
+    {
+        find_below(self.alloc, self, names, not_below)
     }
 
     // Whether there is room for one more link of the team, whose text has so many bytes.

@@ -62,6 +62,15 @@ impl Holding {
         }
     }
 
+    /// The text of the link at a place.
+    pub(crate) fn text_at(&self, place: usize) -> &[u8]
+        requires held { place < length self.now }
+        ensures { option_map text (slice_get self.now place) ≡ Some result.now }
+    {
+        let (_, text) = self.texts.get_index(place).unwrap();
+        text.as_slice()
+    }
+
     pub(crate) fn holds(&self, name: &LinkName) -> bool
         ensures { result ≡ has_name (names name_of self.now) name.now }
     {

@@ -6,9 +6,11 @@
 //!
 //! The parts stand in modules of their own, each with a contract over lists: `holding` has texts and links by name, `children` the
 //! links that name a parent, `connected` the positions, `ready` and `connecting` let links connect, `ordering`, `heads` and `lineup`
-//! keep order and heads, `web` puts a link in and takes it out, `parentage` keeps the ancestry of positions.
+//! keep order and heads, `web` puts a link in and takes it out, `parentage` keeps the ancestry of positions. `below` finds the links
+//! of some names with their ancestors, and `keeper` is what those see who exchange links.
 #![tactic(auto)]
 
+mod below;
 mod children;
 mod connected;
 mod connecting;
@@ -16,6 +18,7 @@ mod graph;
 mod heads;
 mod holding;
 mod inserting;
+mod keeper;
 mod laws;
 mod lineup;
 mod measuring;
@@ -27,7 +30,9 @@ mod taking;
 mod took;
 mod web;
 
+pub use below::{find_within, mark_one};
 pub use graph::Graph;
+pub use keeper::LinkKeeper;
 pub use laws::{positions_stand_as_links, waits_where_unconnected};
 pub use take_fault::TakeFault;
 pub use took::Took;

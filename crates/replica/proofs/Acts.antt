@@ -41,7 +41,7 @@ use Rattle.link_graph.specs.Held.{arrived_of}
 use Rattle.replica.specs.Judged.{is_lawful_at}
 use Rattle.replica.specs.Settling.{AreLawful, by_position, is_between, is_standing, is_struck_at, place_in, position_of, standing_names, striker_of}
 use Rattle.replica.specs.Striking.{AreStrikes, link_strikes, strikes_any}
-use Rattle.replica.proofs.Arrived.{differ, to_links}
+use Rattle.link_graph.proofs.Arrived.{differ, to_links}
 use Rattle.replica.proofs.Mapped.{MapsAlike, decision-mapped, map_decided}
 use Rattle.replica.proofs.Noting.{own_not}
 use Rattle.replica.proofs.Places.{link_there, position_is}

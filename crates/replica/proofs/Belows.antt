@@ -1,5 +1,5 @@
 -- Links with their pasts: closed under parents, and all given before the links that come after the ones named.
-use Rattle.std.proofs.Common.{◌≡◌, ◌⊎◌, ℕ, ◌<◌, ◌≤◌, Bool, true, false, List, Some, refl, sym, ◌∙◌, ap, subst, inl, inr, length, take, drop, slice_get, arith}
+use Rattle.std.proofs.Common.{◌≡◌, ◌⊎◌, ℕ, ◌<◌, ◌≤◌, Bool, true, false, ◌||◌, List, [], ◌∷◌, map, Some, refl, sym, ◌∙◌, ap, subst, inl, inr, length, take, drop, slice_get, arith}
 use Rattle.std.specs.List.{list_any}
 use Rattle.std.proofs.lemmas.Bool.{false≢true, or_cases, or_left, or_right}
 use Rattle.team_sets.specs.Names.{Name, has_name}
@@ -8,7 +8,7 @@ use Rattle.team_sets.specs.Order.{names}
 use Rattle.team_sets.specs.Ancestry.{is_before, named}
 use Rattle.team_sets.specs.OrderLaws.{IsSet}
 use Rattle.team_sets.specs.PartLaws.{HasParents}
-use Rattle.team_sets.proofs.Agree.{any_in}
+use Rattle.team_sets.proofs.Agree.{any_in, same_answer}
 use Rattle.team_sets.proofs.Ancestors.{in_at, in_links, in_take, transitive, unrolled}
 use Rattle.team_sets.proofs.Lists.{filter_alike}
 use Rattle.team_sets.proofs.OrderLeast.{in_filter, of_filter}
@@ -16,9 +16,10 @@ use Rattle.team_sets.proofs.Pasts.{all_names, any_of, one_named, reached_connect
 use Rattle.team_model.specs.Judging.{name_of, prev_of, order_of, past_of}
 use Rattle.team_model.specs.declared.terms.Link.{Link}
 use Rattle.link_graph.specs.Held.{arrived_of}
+use Rattle.link_graph.specs.Below.{is_within}
 use Rattle.replica.specs.Below.{is_below, with_pasts}
 use Rattle.replica.specs.Judged.{AreGiven}
-use Rattle.replica.proofs.Arrived.{ancestor_at, at_order, differ, of_back, of_front, one_place, ordered, to_links}
+use Rattle.link_graph.proofs.Arrived.{ancestor_at, at_order, differ, of_back, of_front, one_place, ordered, to_links}
 
 module _ (links : List Link) (set : IsSet name_of links) where
   -- the parents of a connected link, with their pasts, are its past
@@ -46,6 +47,31 @@ module _ (links : List Link) (set : IsSet name_of links) where
         let here = of_filter (λ x. has_name heads x.name) h links k in
         let i = head_given h here.0 here.1 in
         at_order links set i.0 h i.2
+
+    -- these are the links that a graph marks for the names
+    pub within_below : (x : Link) → is_within links heads x ≡ is_below links heads x.name
+    within_below x = ap (λ b. has_name heads x.name || b) (same_answer (list_any (is_before name_of prev_of links x.name) (named name_of prev_of (order_of links) heads))
+        (list_any (is_before name_of prev_of links x.name) (named name_of prev_of links heads)) forth back)
+      where
+        forth : list_any (is_before name_of prev_of links x.name) (named name_of prev_of (order_of links) heads) ≡ true → list_any (is_before name_of prev_of links x.name) (named name_of prev_of links heads) ≡ true
+        forth e =
+            let h = any_of (is_before name_of prev_of links x.name) (named name_of prev_of (order_of links) heads) e in
+            let of = of_filter (λ y. has_name heads y.name) h.0 (order_of links) h.1 in
+            any_in (is_before name_of prev_of links x.name) (named name_of prev_of links heads) h.0
+            (in_filter (λ y. has_name heads y.name) h.0 links (in_links name_of prev_of links (differ links set) h.0 of.0) of.1) h.2
+
+        back : list_any (is_before name_of prev_of links x.name) (named name_of prev_of links heads) ≡ true → list_any (is_before name_of prev_of links x.name) (named name_of prev_of (order_of links) heads) ≡ true
+        back e =
+            let h = any_of (is_before name_of prev_of links x.name) (named name_of prev_of links heads) e in
+            let of = of_filter (λ y. has_name heads y.name) h.0 links h.1 in
+            any_in (is_before name_of prev_of links x.name) (named name_of prev_of (order_of links) heads) h.0 (in_filter (λ y. has_name heads y.name) h.0 (order_of links) (head_connected h.0 h.1) of.1) h.2
+
+    pub marks_below : map (is_within links heads) (arrived_of links) ≡ map (λ x. is_below links heads x.name) (arrived_of links)
+    marks_below = alike (arrived_of links)
+      where
+        alike : (xs : List Link) → map (is_within links heads) xs ≡ map (λ x. is_below links heads x.name) xs
+        alike [] = refl
+        alike (y ∷ ys) = rw (within_below y, alike ys) refl
 
     below_cases : (a : Name) → is_below links heads a ≡ true → (has_name heads a ≡ true) ⊎ ((h : Link) × IsIn h (named name_of prev_of links heads) × (is_before name_of prev_of links a h ≡ true))
     below_cases a e = go (or_cases (has_name heads a) (list_any (is_before name_of prev_of links a) (named name_of prev_of links heads)) e)

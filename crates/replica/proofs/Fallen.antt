@@ -24,7 +24,7 @@ use Rattle.replica.specs.Settling.{IsSettled, by_position, decided_at, first_sta
 use Rattle.replica.specs.Striking.{link_strikes}
 use Rattle.replica.specs.Views.{judgements}
 use Rattle.replica.specs.declared.settling.Settled.{Settled}
-use Rattle.replica.proofs.Arrived.{at_order, ordered}
+use Rattle.link_graph.proofs.Arrived.{at_order, ordered}
 use Rattle.replica.proofs.Mapped.{find_mapped}
 use Rattle.replica.proofs.Places.{link_there, position_is}
 use Rattle.replica.proofs.Verdicts.{is_stood, unstruck_none}

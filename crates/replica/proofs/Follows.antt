@@ -25,11 +25,11 @@ use Rattle.team_model.specs.declared.terms.Link.{Link}
 use Rattle.team_model.proofs.Brought.{rank_defined}
 use Rattle.team_model.proofs.PastTeams.{filter_comm, lawful-past}
 use Rattle.acts.specs.declared.entry.Entry.{Entry}
-use Rattle.replica.proofs.Arrived.{index_in, of_back, of_front, one_place}
+use Rattle.link_graph.proofs.Arrived.{index_in, of_back, of_front, one_place}
 use Rattle.replica.proofs.Later.{ComesAfter, resolved-after}
 use Rattle.replica.proofs.Lower.{connected, lower}
 use Rattle.replica.proofs.Parts.{team_part}
-use Rattle.replica.proofs.Picks.{drop_here}
+use Rattle.link_graph.proofs.Picks.{drop_here}
 
 or_false : (b : Bool) → (b || false) ≡ b
 or_false true = refl

@@ -16,7 +16,7 @@ use Rattle.link_graph.proofs.NextOnes.{split_last}
 use Rattle.link_graph.proofs.Webbing.{set_parts}
 use Rattle.replica.specs.Judged.{AreJudged, is_lawful_at}
 use Rattle.replica.specs.Views.{judgements}
-use Rattle.replica.proofs.Arrived.{differ, to_order}
+use Rattle.link_graph.proofs.Arrived.{differ, to_order}
 
 judged_push : (links : List Link) (z : Link) → IsSet name_of (links ++ z ∷ []) → AreJudged (links ++ z ∷ []) (judgements links)
 judged_push links z set_of =

@@ -24,10 +24,10 @@ use Rattle.replica.specs.Judged.{is_lawful_at}
 use Rattle.replica.specs.Kept.{AreAllJudged}
 use Rattle.replica.specs.Striking.{AreStrikes, AreStriking, IsJudged, is_striker_at, link_strikes, strikes_any, strikes_between}
 use Rattle.replica.specs.declared.judged.Judged.{Judged}
-use Rattle.replica.proofs.Arrived.{differ, to_order}
+use Rattle.link_graph.proofs.Arrived.{differ, to_order}
 use Rattle.replica.proofs.Judgements.{judged_before}
 use Rattle.replica.proofs.Noting.{lawful_within}
-use Rattle.replica.proofs.Picks.{some_at}
+use Rattle.link_graph.proofs.Picks.{some_at}
 
 in_front : (xs ys : List Link) (i : ℕ) (x : Link) → slice_get xs i ≡ Some x → slice_get (xs ++ ys) i ≡ Some x
 in_front [] ys i x e = absurd (let bad : ◌≡◌ {A = Option Link} None (Some x) = e in cc)

@@ -1,6 +1,5 @@
 pub mod Acts
 pub mod Alike
-pub mod Arrived
 pub mod Belows
 pub mod Fallen
 pub mod Follows
@@ -9,13 +8,11 @@ pub mod Lasting
 pub mod Later
 pub mod Lower
 pub mod Mapped
-pub mod Marks
 pub mod Named
 pub mod Noted
 pub mod Noting
 pub mod Parts
 pub mod Pasts
-pub mod Picks
 pub mod Places
 pub mod Resolves
 pub mod Seniorities

@@ -22,8 +22,8 @@ use Rattle.team_sets.proofs.Lists.{same_flip}
 use Rattle.replica.specs.Below.{AreConnected}
 use Rattle.replica.specs.Judged.{AreGiven}
 use Rattle.replica.specs.Views.{verdict_named}
-use Rattle.replica.proofs.Arrived.{differ, place_of_order, to_links}
-use Rattle.replica.proofs.Marks.{link_named, map_at, named_at, not_there}
+use Rattle.link_graph.proofs.Arrived.{differ, place_of_order, to_links}
+use Rattle.link_graph.proofs.Marks.{link_named, map_at, named_at, not_there}
 
 all_names_weaker : (p q : Name → Bool) (ns : List Name) → ((n : Name) → p n ≡ true → q n ≡ true) → list_all p ns ≡ true → list_all q ns ≡ true
 all_names_weaker p q [] h all = refl

@@ -17,7 +17,7 @@ use Rattle.team_model.specs.declared.terms.Reason.{Reason}
 use Rattle.replica.specs.Judged.{is_lawful_at}
 use Rattle.replica.specs.Striking.{AreNotedOf, AreStrikes, AreStrikesBefore, AreStriking, AreStrikingBefore, NotesStrike, has_position, is_striker_at, link_strikes, strikes_any, strikes_between}
 use Rattle.replica.proofs.Noting.{lawful_before, lawful_within, left_lawful, left_within, or_none, right_within}
-use Rattle.replica.proofs.Picks.{take_next}
+use Rattle.link_graph.proofs.Picks.{take_next}
 
 -- what strikes is a striker
 pub act_striking : (a : Act) (y : Entry) → act_strikes sha256 a y ≡ true → is_striking a ≡ true

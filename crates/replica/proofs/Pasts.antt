@@ -15,7 +15,7 @@ use Rattle.link_graph.specs.Held.{arrived_of}
 use Rattle.link_graph.specs.Positions.{at_places}
 use Rattle.replica.specs.Below.{is_below, with_pasts}
 use Rattle.replica.specs.Judged.{AreGiven, ArePartOf, FollowsOne, IsPastOf}
-use Rattle.replica.proofs.Arrived.{at_order, differ}
+use Rattle.link_graph.proofs.Arrived.{at_order, differ}
 use Rattle.replica.proofs.Belows.{below_closed, below_early, past_below}
 use Rattle.replica.proofs.Follows.{RefusedStays, team_follows}
 use Rattle.replica.proofs.Parts.{part_differ}

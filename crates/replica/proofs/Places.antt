@@ -11,8 +11,8 @@ use Rattle.team_model.specs.declared.terms.Link.{Link}
 use Rattle.link_graph.specs.Held.{arrived_of}
 use Rattle.link_graph.proofs.Names.{place_named}
 use Rattle.replica.specs.Settling.{position_of}
-use Rattle.replica.proofs.Arrived.{index_in, one_place, ordered}
-use Rattle.replica.proofs.Marks.{link_named, named_at, not_there}
+use Rattle.link_graph.proofs.Arrived.{index_in, one_place, ordered}
+use Rattle.link_graph.proofs.Marks.{link_named, named_at, not_there}
 
 module _ (links : List Link) (set : IsSet name_of links) where
   pub position_at : (i : ℕ) (x : Link) → slice_get (arrived_of links) i ≡ Some x → position (same_name x.name) (names name_of (arrived_of links)) ≡ Some i

@@ -29,11 +29,11 @@ use Rattle.replica.specs.Settling.{AllBrought, AreLawful, IsSettled, first_broug
 use Rattle.replica.specs.declared.resolving.Resolved.{Resolved}
 use Rattle.replica.specs.declared.settling.Settled.{Settled}
 use Rattle.replica.proofs.Alike.{firsts-alike}
-use Rattle.replica.proofs.Arrived.{at_order, differ, in_back, ordered}
+use Rattle.link_graph.proofs.Arrived.{at_order, differ, in_back, ordered}
 use Rattle.replica.proofs.Judgements.{lawful_at}
-use Rattle.replica.proofs.Marks.{map_at}
+use Rattle.link_graph.proofs.Marks.{map_at}
 use Rattle.replica.proofs.Parts.{lawful_part, of_lawful_part, part_connected, part_differ, resolved_part}
-use Rattle.replica.proofs.Picks.{picked_filter}
+use Rattle.link_graph.proofs.Picks.{picked_filter}
 use Rattle.replica.proofs.Seniorities.{at_place_in}
 
 filter_both : {A : Type 0} (p q : A → Bool) (xs : List A) → filter (λ x. p x && q x) xs ≡ filter q (filter p xs)

@@ -18,9 +18,9 @@ use Rattle.team_model.specs.declared.terms.Link.{Link}
 use Rattle.link_graph.specs.Held.{arrived_of}
 use Rattle.link_graph.specs.Positions.{at_places}
 use Rattle.replica.specs.Settling.{AddsStriker, AllBrought, HasFirsts, IsRanked, NotesBringing, first_brought, place_in, position_of, striker_by, striker_of, striker_since}
-use Rattle.replica.proofs.Arrived.{index_in}
+use Rattle.link_graph.proofs.Arrived.{index_in}
 use Rattle.replica.proofs.Places.{position_at, position_is}
-use Rattle.replica.proofs.Picks.{drop_here, picked_more, take_next}
+use Rattle.link_graph.proofs.Picks.{drop_here, picked_more, take_next}
 
 -- what stands at a place of a list of positions
 pub place_got : (ps : List ℕ) (i d : ℕ) → i < length ps → slice_get ps i ≡ Some (get_or ps i d)

@@ -16,12 +16,12 @@ use Rattle.team_model.specs.declared.terms.Link.{Link}
 use Rattle.team_model.specs.declared.terms.Reason.{Reason}
 use Rattle.link_graph.specs.Held.{arrived_of}
 use Rattle.link_graph.proofs.Names.{get_within}
-use Rattle.replica.specs.Judged.{AreMarked}
+use Rattle.link_graph.specs.Below.{AreMarked}
 use Rattle.replica.specs.Settling.{AreActsOf, AreLawful, IsSettled, by_position, decided_at, is_between, is_standing, is_struck_at, position_of, standing_names, stands_at, striker_of}
 use Rattle.replica.specs.Striking.{AreStrikes}
 use Rattle.replica.specs.declared.settling.Settled.{Settled}
 use Rattle.replica.proofs.Acts.{decisions_are, names_stood, of_acting, struck_is, there}
-use Rattle.replica.proofs.Picks.{drop_here, some_at}
+use Rattle.link_graph.proofs.Picks.{drop_here, some_at}
 
 or_same : (a b c : Bool) → (a || (b || c)) ≡ ((a || b) || c)
 or_same true b c = refl

@@ -21,7 +21,7 @@ use Rattle.link_graph.proofs.Names.{get_within}
 use Rattle.team_sets.proofs.Lists.{same_flip}
 use Rattle.team_sets.proofs.Distinct.{apart}
 use Rattle.replica.specs.Judged.{noted, turned}
-use Rattle.replica.proofs.Arrived.{one_place}
+use Rattle.link_graph.proofs.Arrived.{one_place}
 
 module _ (rules : Rules) where
   -- what becomes of x over links that have their turn one after the other

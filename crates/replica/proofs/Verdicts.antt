@@ -31,8 +31,8 @@ use Rattle.link_graph.specs.Positions.{at_places}
 use Rattle.team_sets.proofs.Lists.{some_at}
 use Rattle.replica.specs.Judged.{turned}
 use Rattle.replica.specs.Resolving.{decided_first, first_lawful, first_verdict}
-use Rattle.replica.proofs.Arrived.{at_order, differ, ordered}
-use Rattle.replica.proofs.Marks.{map_at}
+use Rattle.link_graph.proofs.Arrived.{at_order, differ, ordered}
+use Rattle.link_graph.proofs.Marks.{map_at}
 use Rattle.replica.proofs.Turns.{turn_here, turn_in, turn_none, turned_at, length-turned}
 
 is_false : (b : Bool) → (b ≡ true → ⊥) → b ≡ false

@@ -14,7 +14,7 @@ use Rattle.replica.specs.Resolving.{IsResolved, first_verdict}
 use Rattle.replica.specs.Settling.{IsSettled}
 use Rattle.replica.specs.Views.{IsViewOf}
 use Rattle.replica.specs.declared.resolving.Resolved.{Resolved}
-use Rattle.replica.proofs.Arrived.{differ, of_back}
+use Rattle.link_graph.proofs.Arrived.{differ, of_back}
 use Rattle.replica.proofs.Verdicts.{verdicts_are}
 
 all_true : {A : Type 0} (xs : List A) → filter (λ x. true) xs ≡ xs

@@ -1,5 +1,5 @@
 -- What is found on the way to a view, by position. Only private contracts cite it.
-use Rattle.std.specs.Prelude.{◌≡◌, ℕ, ◌-◌, ◌<◌, Bool, true, false, ◌&&◌, ◌||◌, List, [], ◌∷◌, length, take, drop, map, set, slice_get, slice_index_or, Option, Some, None, is_none, IfSome}
+use Rattle.std.specs.Prelude.{◌≡◌, ℕ, ◌-◌, ◌<◌, Bool, true, false, ◌&&◌, List, [], ◌∷◌, length, take, drop, map, set, slice_get, slice_index_or, Option, Some, None, is_none, IfSome}
 use Rattle.std.specs.Option.{option_map_or}
 use Rattle.std.specs.List.{list_all}
 use Rattle.team_sets.specs.Names.{Name, has_name}
@@ -30,11 +30,6 @@ is_picked marked judged p = slice_index_or marked p false && is_lawful_at judged
 -- the names are those of links of the first n positions
 abbrev pub AreGiven : List Link → ℕ → List Name → Type 0
 AreGiven links n ns = list_all (has_name (names name_of (take n (arrived_of links)))) ns ≡ true
-
--- the flags of before, and those of the links with one of the names
-abbrev pub AreMarked : List Link → List Name → List Bool → List Bool → Type 0
-AreMarked links ns old new = (i : ℕ) (x : Link) → slice_get (arrived_of links) i ≡ Some x
-    → slice_index_or new i false ≡ (slice_index_or old i false || has_name ns x.name)
 
 -- the flags say which of the positions belong to a part of the set that has the parents of each of its links; those of no link
 -- after the first n positions do

@@ -12,10 +12,9 @@ ghost use Rattle.replica.specs.Striking.{IsJudged};
 ghost use Rattle.replica.specs.Views.{judgements};
 
 use crate::before_turns::first_verdicts;
-use crate::below::find_below;
 use crate::judged::Judged;
 use crate::resolving::{Resolved, resolve};
-use link_graph::Graph;
+use link_graph::{Graph, find_within};
 use std::alloc::Global;
 use team_model::{Reason, Verdict};
 use team_reducer::apply;
@@ -61,7 +60,7 @@ pub(crate) fn team_below<L: StepLedger>(
 {
     // A law: it does nothing at run time.
     graph.is_held();
-    let marked = find_below(alloc, graph, names)?;
+    let marked = find_within(alloc, graph, names)?;
     let resolved = resolve(alloc, graph, judged, &marked)?;
     fold_links(alloc, graph, &resolved.positions, steps)
 }

@@ -6,14 +6,14 @@
 //!
 //! `judging` finds which links are lawful, and `striking` which of these strike which, each once. `settling` decides which strikers
 //! stand, and `resolving` which links stay; `folding` is what comes of these in their turn, `before_turns` what becomes of the others, and
-//! `viewing` the view of all. `below` marks links with their ancestors.
+//! `viewing` the view of all. `keeper` is what those see of it who exchange links.
 #![tactic(auto)]
 
 mod before_turns;
-mod below;
 mod folding;
 mod judged;
 mod judging;
+mod keeper;
 mod laws;
 mod replica;
 mod resolving;

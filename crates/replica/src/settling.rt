@@ -3,16 +3,15 @@ ghost use Rattle.std.specs.Prelude.{◌≡◌, ◌<◌, ◌||◌, if◌then◌el
 ghost use Rattle.team_sets.specs.Names.{has_name};
 ghost use Rattle.team_model.specs.Judging.{decision_in, strikers, team_rules};
 ghost use Rattle.team_model.specs.declared.terms.Link.{Link};
+ghost use Rattle.link_graph.specs.Below.{AreMarked};
 ghost use Rattle.link_graph.specs.Held.{arrived_of};
 ghost use Rattle.link_graph.specs.Positions.{at_places};
-ghost use Rattle.replica.specs.Judged.{AreMarked};
 ghost use Rattle.replica.specs.Settling.{AddsStriker, AllBrought, AreActsOf, AreLawful, by_position, decided_at, first_standing, HasFirsts, HasSizes, is_between, is_struck_at, IsPairWithin, IsRanked, IsSettled, NotesBringing, standing_names, stands_at, striker_by, striker_of};
 ghost use Rattle.replica.specs.Striking.{IsJudged};
 
-use crate::below::mark_one;
 use crate::judged::Judged;
 use crate::striking::strikes_at;
-use link_graph::Graph;
+use link_graph::{Graph, mark_one};
 use settlement::{Decision, Place, Striker, rank_is_by_seniority, settle_all};
 use std::alloc::Global;
 use strikes::{Seniority, brings_user, is_striking};

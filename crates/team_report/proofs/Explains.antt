@@ -20,12 +20,12 @@ use Rattle.team_model.specs.declared.terms.Verdict.{Verdict}
 use Rattle.team_model.specs.declared.terms.Verdict.TheVariants.{Unlawful, Waiting}
 use Rattle.link_graph.specs.Held.{arrived_of}
 use Rattle.link_graph.proofs.Names.{get_within, place_named}
-use Rattle.replica.proofs.Arrived.{at_links, at_order}
-use Rattle.replica.proofs.Marks.{link_named}
+use Rattle.link_graph.proofs.Arrived.{at_links, at_order}
+use Rattle.link_graph.proofs.Marks.{link_named}
+use Rattle.link_graph.proofs.Placed.{connected_at}
 use Rattle.team_report.specs.LogText.{is_connected}
 use Rattle.team_report.specs.WhyText.{explained, link_named as held_named, why_named, why_text}
 use Rattle.team_report.proofs.LineSteps.{judged_at}
-use Rattle.team_report.proofs.Waits.{connected_at}
 
 -- the verdict of a position, as what is found there
 pub verdict_found : (links : List Link) (p : ℕ) (v : Verdict) (vs : List Verdict) → vs ≡ map (verdict team_rules links) (arrived_of links) → v ≡ get_or vs p v
@@ -101,7 +101,7 @@ module _ (links : List Link) (set_of : IsSet name_of links) where
   waiting_why n x (Ok out) none at h =
       let of = find_of (λ z. same_name n z.name) links x at in
       let name : n ≡ x.name = same_name-is n x.name of.1 in
-      let apart : is_connected links x ≡ false = sym (connected_at links set_of x None (ap (λ (m : Name). position (same_name m) (names name_of (arrived_of links))) (sym name) ∙ none)) in
+      let apart : is_connected links x ≡ false = sym (connected_at links set_of x.name None (ap (λ (m : Name). position (same_name m) (names name_of (arrived_of links))) (sym name) ∙ none)) in
       ap (λ (o : Option Link). option_map (why_text links) o) at
       ∙ ap (λ (b : Bool). Some (explained x (cond b (Some (height name_of prev_of links x)) None)
       (cond b (option_map_or (λ r. Unlawful r) (unlawful_reason team_rules links x) (lawful_verdict team_rules links x)) Waiting))) apart

@@ -6,7 +6,7 @@ use Rattle.team_model.specs.Judging.{team_rules, verdict}
 use Rattle.team_model.specs.declared.terms.Link.{Link}
 use Rattle.team_model.specs.declared.terms.Verdict.{Verdict}
 use Rattle.link_graph.specs.Held.{arrived_of}
-use Rattle.replica.proofs.Marks.{map_at}
+use Rattle.link_graph.proofs.Marks.{map_at}
 
 module _ {Y A : Type 0} (f : A → List ℕ) (h : Y → Option A) (ys : List Y) where
   -- what is left has the line of the next first

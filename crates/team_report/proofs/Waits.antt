@@ -1,11 +1,11 @@
 -- Which links wait, and their lines, from entries that were sorted.
-use Rattle.std.proofs.Common.{◌≡◌, ◌∙◌, ℕ, ◌+◌, ◌<◌, suc, Bool, true, false, not, cond, List, [], ◌∷◌, ◌++◌, ◌⊎◌, inl, inr, Option, Some, None, is_some, refl, sym, ap, subst, filter, flat_map, append-nil, get_or, length, position, slice_get, take, arith}
+use Rattle.std.proofs.Common.{◌≡◌, ◌∙◌, ℕ, ◌+◌, ◌<◌, suc, Bool, true, false, not, cond, List, [], ◌∷◌, ◌++◌, ◌⊎◌, inl, inr, Option, Some, None, refl, sym, ap, subst, filter, flat_map, append-nil, get_or, length, slice_get, take, arith}
 use Rattle.std.specs.List.{AllByRecursion, IsDistinct, cons_option}
 use Rattle.std.specs.List.Sorted.{IsPermutation, IsSorted}
 use Rattle.std.specs.Map.{keys_of}
 use Rattle.std.specs.Option.{option_map_or}
 use Rattle.std.specs.Ordering.{is_lt, nat_cmp, ordering_then}
-use Rattle.std.specs.Cmp.Lexicographic.{bytes_decides, nat_list_eq_equiv, slice_cmp}
+use Rattle.std.specs.Cmp.Lexicographic.{nat_list_eq_equiv, slice_cmp}
 use Rattle.std.specs.declared.cmp.Ordering.{Ordering}
 use Rattle.std.specs.declared.cmp.Ordering.TheVariants.{Less, Equal, Greater}
 use Rattle.std.proofs.lemmas.Bool.{false≢true}
@@ -13,48 +13,27 @@ use Rattle.std.proofs.lemmas.List.Elements.{filter_more}
 use Rattle.std.proofs.lemmas.List.Sorted.{IsPermutation-map, IsPermutation-sym}
 use Rattle.std.proofs.lemmas.Map.Keys.{IsDistinct-IsPermutation}
 use Rattle.std.proofs.lemmas.Option.{slice_get-get_or}
-use Rattle.team_sets.specs.Names.{Name, has_name, name_lt, same_name}
+use Rattle.team_sets.specs.Names.{Name, name_lt, same_name}
 use Rattle.team_sets.specs.Members.{HaveSameMembers, IsIn}
 use Rattle.team_sets.specs.Order.{names}
 use Rattle.team_sets.specs.OrderLaws.{IsSet}
 use Rattle.team_sets.specs.SortedLaws.{IsAscending, by_names}
-use Rattle.team_sets.proofs.Agree.{same_answer}
 use Rattle.team_sets.proofs.Ancestors.{in_at}
 use Rattle.team_sets.proofs.OrderLeast.{of_filter}
-use Rattle.team_sets.proofs.Parts.{has_of_in, name_in}
-use Rattle.team_sets.proofs.Pasts.{all_at, one_named}
+use Rattle.team_sets.proofs.Pasts.{all_at}
 use Rattle.team_sets.proofs.SameSet.{set-filter}
 use Rattle.team_sets.proofs.Sorted.{all_of, ascending-ascends, ascending-members, ascending-one, name_lt-apart, names-strict, set-apart}
 use Rattle.key_reach.proofs.Ends.{moved-in}
-use Rattle.team_model.specs.Judging.{lawful_verdict, name_of, order_of, prev_of, team_rules, unlawful_reason}
+use Rattle.team_model.specs.Judging.{lawful_verdict, name_of, team_rules, unlawful_reason}
 use Rattle.team_model.specs.declared.terms.Link.{Link}
 use Rattle.team_model.specs.declared.terms.Verdict.TheVariants.{Unlawful, Waiting}
 use Rattle.link_text.specs.TeamFile.{by_name}
-use Rattle.link_graph.specs.Held.{arrived_of}
 use Rattle.link_graph.specs.Positions.{HasEntries, linked}
 use Rattle.link_graph.proofs.Fitting.{entries_push, keys_linked, linked_push, named_at as link_at_name}
-use Rattle.link_graph.proofs.Names.{get_at, place_named}
-use Rattle.replica.proofs.Arrived.{index_in, ordered}
-use Rattle.replica.proofs.Marks.{named_at, not_there}
+use Rattle.link_graph.proofs.Names.{get_at}
+use Rattle.link_graph.proofs.Marks.{named_at}
 use Rattle.team_report.specs.Entries.{entered, entry_cmp}
 use Rattle.team_report.specs.LogText.{is_connected, judged_line, log_line, waiting_links}
-
--- one of the links has the name where there is a position of it
-position_has : (xs : List Link) (n : Name) (o : Option ℕ) → position (same_name n) (names name_of xs) ≡ o → is_some o ≡ has_name (names name_of xs) n
-position_has xs n None e = same_answer false (has_name (names name_of xs) n) (λ h. absurd (false≢true h))
-    (λ h. let x = one_named name_of xs n h in let i = index_in xs x.0 x.1 in
-    sym (not_there (same_name n) (names name_of xs) i.0 (x.0).name e (named_at xs i.0 x.0 i.1)) ∙ (bytes_decides n (x.0).name).1 (sym x.2))
-position_has xs n (Some i) e = sym (has_of_in name_of prev_of (names name_of xs) n (in_at (names name_of xs) i n (place_named n (names name_of xs) i e)))
-
-module _ (links : List Link) (set_of : IsSet name_of links) where
-  order_has : (n : Name) → has_name (names name_of (arrived_of links)) n ≡ has_name (names name_of (order_of links)) n
-  order_has n = same_answer (has_name (names name_of (arrived_of links)) n) (has_name (names name_of (order_of links)) n)
-      (λ h. let x = one_named name_of (arrived_of links) n h in name_in name_of prev_of (order_of links) x.0 ((ordered links set_of).members.forth x.0 x.1) n x.2)
-      (λ h. let x = one_named name_of (order_of links) n h in name_in name_of prev_of (arrived_of links) x.0 ((ordered links set_of).members.back x.0 x.1) n x.2)
-
-  -- a link is connected where it has a position
-  pub connected_at : (x : Link) (o : Option ℕ) → position (same_name x.name) (names name_of (arrived_of links)) ≡ o → is_some o ≡ is_connected links x
-  connected_at x o e = position_has (arrived_of links) x.name o e ∙ order_has x.name
 
 -- the links that wait are entered one by one
 module _ (links : List Link) where

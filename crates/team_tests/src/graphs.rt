@@ -106,6 +106,42 @@ fn the_file_of_a_graph_is_that_graph(rt: HostRuntime) -> Result<(), Fail> {
     Ok(())
 }
 
+// Whether a graph takes the texts of these positions of another.
+fn are_passed_on(graph: &mut Graph, other: &Graph, positions: &[u32]) -> bool {
+    for position in positions {
+        if *position >= other.connected() || !is_taken(graph, other.text_at(*position)) {
+            return false;
+        }
+    }
+    true
+}
+
+// What is below the heads of one graph and not below those of another is what the other lacks, parents first.
+#[test]
+fn links_below_heads_are_passed_on(rt: HostRuntime) -> Result<(), Fail> {
+    let alloc = rt.alloc();
+    let (history, graph) = forwards(alloc)?;
+    let mut other = graph_of(alloc, &history, &[0, 1, 2]).ok_or("not taken")?;
+    let lacking = graph.below(graph.heads(), other.heads())?;
+    assert!(rt; lacking.len() == LINKS - 3);
+    assert!(rt; are_passed_on(&mut other, &graph, lacking.as_slice()));
+    assert!(rt; are_same(alloc, &graph, &other)?);
+    Ok(())
+}
+
+// All links are below the heads, and none where the same names are left out or no name is connected.
+#[test]
+fn links_are_below_names(rt: HostRuntime) -> Result<(), Fail> {
+    let alloc = rt.alloc();
+    let (history, graph) = forwards(alloc)?;
+    let far = make_history(alloc, 2, 1)?;
+    assert!(rt; graph.below(graph.heads(), &[])?.as_slice() == graph.order());
+    assert!(rt; graph.below(graph.heads(), graph.heads())?.is_empty());
+    assert!(rt; graph.below(&[history.team], &[far.team])?.as_slice() == [0].as_slice());
+    assert!(rt; graph.below(&[far.team], &[])?.is_empty());
+    Ok(())
+}
+
 // Whether a text is taken and let go, which leaves what is held, and is then taken to stay.
 fn goes_and_stays(graph: &mut Graph, text: &[u8]) -> bool {
     let (held, heads) = (graph.held(), graph.heads().len());

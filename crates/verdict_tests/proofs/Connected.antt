@@ -11,8 +11,8 @@ use Rattle.team_model.specs.declared.terms.Link.{Link}
 use Rattle.link_graph.specs.Held.{arrived_of}
 use Rattle.link_graph.proofs.Names.{place_named}
 use Rattle.replica.specs.Below.{AreConnected}
-use Rattle.replica.proofs.Arrived.{to_order}
-use Rattle.replica.proofs.Marks.{link_named}
+use Rattle.link_graph.proofs.Arrived.{to_order}
+use Rattle.link_graph.proofs.Marks.{link_named}
 
 pub one_connected : (links : List Link) → IsSet name_of links → (n : Name) (p : ℕ) → position (same_name n) (names name_of (arrived_of links)) ≡ Some p → AreConnected links (n ∷ [])
 one_connected links set n p found =

@@ -2,7 +2,7 @@ use Rattle.std.proofs.Common.{◌∙◌, ◌∷◌, ◌++◌, [], ap, map, sym, 
 use Rattle.std.proofs.lemmas.List.{map-append}
 use Rattle.link_graph.specs.Held.{arrived_of}
 use Rattle.replica.specs.Resolving.{first_verdict}
-use Rattle.replica.proofs.Picks.{some_at, take_next}
+use Rattle.link_graph.proofs.Picks.{some_at, take_next}
 use Rattle.replica.proofs.before_turns.first_verdicts.Goals as goal
 
 pub loop-position-preserved : goal.loop-position-preserved

@@ -4,7 +4,7 @@ use Rattle.team_sets.specs.Names.{Name}
 use Rattle.team_model.specs.Judging.{team, team_rules}
 use Rattle.replica.specs.Below.{with_pasts}
 use Rattle.replica.specs.Judged.{AreGiven}
-use Rattle.replica.proofs.Arrived.{parents_given}
+use Rattle.link_graph.proofs.Arrived.{parents_given}
 use Rattle.replica.proofs.Pasts.{from_parents}
 use Rattle.replica.proofs.judging.next_past.Goals as goal
 

@@ -1,6 +1,6 @@
 use Rattle.std.proofs.Common.{◌≤◌, length, arith}
 use Rattle.link_graph.specs.Held.{arrived_of}
-use Rattle.replica.proofs.Arrived.{ordered}
+use Rattle.link_graph.proofs.Arrived.{ordered}
 use Rattle.replica.proofs.Judgements.{judged_before, judged_few}
 use Rattle.replica.proofs.Lasting.{found_before}
 use Rattle.replica.proofs.replica.look_again.Goals as goal

@@ -1,5 +1,5 @@
 use Rattle.std.proofs.Common.{◌≡◌, length, take}
-use Rattle.replica.specs.Judged.{AreMarked}
+use Rattle.link_graph.specs.Below.{AreMarked}
 use Rattle.replica.specs.Settling.{standing_names}
 use Rattle.replica.proofs.settling.mark_standing.Given as goal
 

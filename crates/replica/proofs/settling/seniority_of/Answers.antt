@@ -2,7 +2,7 @@ use Rattle.std.proofs.Common.{◌≡◌, ◌+◌, ◌-◌, ◌<◌, ℕ, drop, g
 use Rattle.link_graph.specs.Held.{arrived_of}
 use Rattle.link_graph.specs.Positions.{at_places}
 use Rattle.replica.specs.Settling.{HasFirsts}
-use Rattle.replica.proofs.Picks.{some_at}
+use Rattle.link_graph.proofs.Picks.{some_at}
 use Rattle.replica.proofs.Seniorities.{firsts_more, place_got}
 use Rattle.replica.proofs.settling.seniority_of.Goals as goal
 

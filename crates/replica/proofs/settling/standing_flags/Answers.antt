@@ -2,7 +2,7 @@ use Rattle.std.proofs.Common.{◌≡◌, ◌||◌, ◌∙◌, Bool, List, ap, fa
 use Rattle.std.proofs.lemmas.List.{length-replicate}
 use Rattle.team_sets.specs.Names.{has_name}
 use Rattle.replica.specs.Settling.{standing_names}
-use Rattle.replica.proofs.Marks.{none_marked, whole_flags}
+use Rattle.link_graph.proofs.Marks.{none_marked, whole_flags}
 use Rattle.replica.proofs.settling.standing_flags.Goals as goal
 
 pub returns-clause-size : goal.returns-clause-size

@@ -1,6 +1,6 @@
 use Rattle.std.proofs.Common.{get_or, ℕ}
 use Rattle.link_graph.specs.Held.{arrived_of}
-use Rattle.replica.proofs.Picks.{some_at}
+use Rattle.link_graph.proofs.Picks.{some_at}
 use Rattle.replica.proofs.Seniorities.{place_got, ranked_at, strikers_more}
 use Rattle.replica.proofs.settling.strikers_of.Goals as goal
 

@@ -1,7 +1,7 @@
 use Rattle.std.proofs.Common.{◌≡◌, ◌||◌, ◌∙◌, Bool, List, ap, false, get_or, length, replicate, sym}
 use Rattle.std.proofs.lemmas.List.{length-replicate}
 use Rattle.replica.specs.Settling.{is_struck_at}
-use Rattle.replica.proofs.Marks.{none_marked, whole_flags}
+use Rattle.link_graph.proofs.Marks.{none_marked, whole_flags}
 use Rattle.replica.proofs.settling.struck_flags.Goals as goal
 
 pub returns-clause-size : goal.returns-clause-size

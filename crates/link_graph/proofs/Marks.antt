@@ -9,19 +9,19 @@ use Rattle.team_sets.specs.Names.{Name, same_name, has_name}
 use Rattle.team_sets.specs.Order.{names}
 use Rattle.team_sets.specs.Ancestry.{is_before, is_before_within, named}
 use Rattle.team_sets.specs.OrderLaws.{IsSet}
-use Rattle.team_sets.proofs.Agree.{same_answer}
-use Rattle.team_sets.proofs.OrderLeast.{of_filter}
+use Rattle.team_sets.specs.Members.{IsIn}
+use Rattle.team_sets.proofs.Agree.{any_in, same_answer}
+use Rattle.team_sets.proofs.Ancestors.{transitive, unrolled}
+use Rattle.team_sets.proofs.OrderLeast.{in_filter, of_filter}
 use Rattle.team_sets.proofs.Pasts.{any_of, same_name-is}
-use Rattle.team_model.specs.Judging.{name_of, prev_of}
+use Rattle.team_model.specs.Judging.{name_of, order_of, prev_of}
 use Rattle.team_model.specs.declared.terms.Link.{Link}
 use Rattle.link_graph.specs.Held.{arrived_of}
 use Rattle.link_graph.proofs.Names.{get_at, get_within, place_named}
 use Rattle.team_sets.proofs.Lists.{some_at}
-use Rattle.replica.specs.Below.{is_below}
-use Rattle.replica.specs.Judged.{AreGiven, AreMarked}
-use Rattle.replica.proofs.Arrived.{at_links, not_parent, one_place, ordered, parent_at}
-use Rattle.replica.proofs.Belows.{below_parent, head_given}
-use Rattle.replica.proofs.Picks.{take_next}
+use Rattle.link_graph.specs.Below.{AreMarked, is_within}
+use Rattle.link_graph.proofs.Arrived.{at_links, at_order, differ, not_parent, one_place, ordered, parent_at, place_of_order}
+use Rattle.link_graph.proofs.Picks.{take_next}
 
 or_same : (a b c : Bool) → (a || (b || c)) ≡ ((a || b) || c)
 or_same true b c = refl
@@ -74,10 +74,10 @@ map_at {A} f [] i x d e = absurd (let bad : ◌≡◌ {A = Option A} None (Some 
 map_at f (y ∷ ys) zero x d e = let same : y ≡ x = cc in ap f same
 map_at f (y ∷ ys) (suc i) x d e = map_at f ys i x d e
 
--- what is marked is below the names, the links of these names are marked, and from position k on each parent of a marked link
+-- what is marked is within the names, the links of these names are marked, and from position k on each parent of a marked link
 pub record IsMarking (links : List Link) (heads : List Name) (k : ℕ) (flags : List Bool) : Type 0 where
   pub size : length flags ≡ length (arrived_of links)
-  pub sound : (i : ℕ) (x : Link) → slice_get (arrived_of links) i ≡ Some x → get_or flags i false ≡ true → is_below links heads x.name ≡ true
+  pub sound : (i : ℕ) (x : Link) → slice_get (arrived_of links) i ≡ Some x → get_or flags i false ≡ true → is_within links heads x ≡ true
   pub heads_too : (i : ℕ) (x : Link) → slice_get (arrived_of links) i ≡ Some x → has_name heads x.name ≡ true → get_or flags i false ≡ true
   pub parents_too : (i j : ℕ) (x y : Link) → slice_get (arrived_of links) i ≡ Some x → slice_get (arrived_of links) j ≡ Some y → k ≤ j
       → get_or flags j false ≡ true → has_name y.prev x.name ≡ true → get_or flags i false ≡ true
@@ -135,14 +135,36 @@ module _ (links : List Link) (set_of : IsSet name_of links) where
       ap (λ l. get_or l i false) is
       ∙ sym (ap (λ b. get_or now i false || (b || false)) (not_there (same_name n) (names name_of (arrived_of links)) i x.name found (named_at (arrived_of links) i x there)) ∙ or_none (get_or now i false))
 
-  module _ (heads : List Name) (n : ℕ) (given : AreGiven links n heads) where
+  module _ (heads : List Name) where
+    -- an ancestor of a connected link with one of the names
+    before_head : (x h : Link) → IsIn h (named name_of prev_of (order_of links) heads) → is_before name_of prev_of links x.name h ≡ true → is_within links heads x ≡ true
+    before_head x h k e =
+        or_right (has_name heads x.name) (list_any (is_before name_of prev_of links x.name) (named name_of prev_of (order_of links) heads))
+        (any_in (is_before name_of prev_of links x.name) (named name_of prev_of (order_of links) heads) h k e)
+
+    -- a parent of one of these is one
+    within_parent : (z x : Link) → IsIn z (order_of links) → IsIn z links → is_within links heads z ≡ true → has_name z.prev x.name ≡ true → is_within links heads x ≡ true
+    within_parent z x o k e p = go (or_cases (has_name heads z.name) (list_any (is_before name_of prev_of links z.name) (named name_of prev_of (order_of links) heads)) e)
+      where
+        direct : is_before name_of prev_of links x.name z ≡ true
+        direct =
+            unrolled name_of prev_of links (differ links set_of) z o x.name
+            ∙ or_left (has_name z.prev x.name) (list_any (is_before name_of prev_of links x.name) (named name_of prev_of links z.prev)) p
+
+        go : (has_name heads z.name ≡ true) ⊎ (list_any (is_before name_of prev_of links z.name) (named name_of prev_of (order_of links) heads) ≡ true) → is_within links heads x ≡ true
+        go (inl d) = before_head x z (in_filter (λ y. has_name heads y.name) z (order_of links) o d) direct
+        go (inr d) =
+            let h = any_of (is_before name_of prev_of links z.name) (named name_of prev_of (order_of links) heads) d in
+            let of = of_filter (λ y. has_name heads y.name) h.0 (order_of links) h.1 in
+            before_head x h.0 h.1 (transitive name_of prev_of links (differ links set_of) h.0 z of.0 k x.name h.2 direct)
+
     -- with the links of these names alone
     pub marking_begins : (old new : List Bool) → length new ≡ length (arrived_of links) → ((i : ℕ) → get_or old i false ≡ false) → AreMarked links heads old new → IsMarking links heads (length (arrived_of links)) new
     marking_begins old new size none marks =
         let is : (i : ℕ) (x : Link) → slice_get (arrived_of links) i ≡ Some x → get_or new i false ≡ has_name heads x.name = λ i x at. marks i x at ∙ ap (λ b. b || has_name heads x.name) (none i) in
         record {
           size = size;
-          sound = λ i x at e. or_left (has_name heads x.name) (list_any (is_before name_of prev_of links x.name) (named name_of prev_of links heads)) (sym (is i x at) ∙ e);
+          sound = λ i x at e. or_left (has_name heads x.name) (list_any (is_before name_of prev_of links x.name) (named name_of prev_of (order_of links) heads)) (sym (is i x at) ∙ e);
           heads_too = λ i x at e. is i x at ∙ e;
           parents_too = λ i j x y at there h e p. let within : j < length (arrived_of links) = get_within (arrived_of links) j y there in absurd (omega (arith, within, h));
         }
@@ -160,9 +182,9 @@ module _ (links : List Link) (set_of : IsSet name_of links) where
         kept : (i : ℕ) (x : Link) → slice_get (arrived_of links) i ≡ Some x → get_or now i false ≡ true → get_or new i false ≡ true
         kept i x at e = marks i x at ∙ or_left (get_or now i false) (has_name z.prev x.name) e
 
-        sound_more : (i : ℕ) (x : Link) → slice_get (arrived_of links) i ≡ Some x → (get_or now i false ≡ true) ⊎ (has_name z.prev x.name ≡ true) → is_below links heads x.name ≡ true
+        sound_more : (i : ℕ) (x : Link) → slice_get (arrived_of links) i ≡ Some x → (get_or now i false ≡ true) ⊎ (has_name z.prev x.name ≡ true) → is_within links heads x ≡ true
         sound_more i x at (inl e) = so.sound i x at e
-        sound_more i x at (inr e) = below_parent links set_of n heads given z (at_links links set_of q z here) (so.sound q z here flag) x.name e
+        sound_more i x at (inr e) = within_parent z x (at_order links set_of q z here) (at_links links set_of q z here) (so.sound q z here flag) e
 
         same_link : (j : ℕ) (y : Link) → slice_get (arrived_of links) j ≡ Some y → q ≡ j → z ≡ y
         same_link j y there e = let one : ◌≡◌ {A = Option Link} (Some z) (Some y) = sym here ∙ ap (λ m. slice_get (arrived_of links) m) e ∙ there in cc
@@ -211,21 +233,21 @@ module _ (links : List Link) (set_of : IsSet name_of links) where
               let k = parent_at links set_of j y there p.0 of.0 of.1 in
               more k.0 p.0 k.2 (whole.parents_too k.0 j p.0 y k.2 there (omega arith) e of.1) p.2
 
-      complete : (i : ℕ) (x : Link) → slice_get (arrived_of links) i ≡ Some x → is_below links heads x.name ≡ true → get_or flags i false ≡ true
-      complete i x at h = go (or_cases (has_name heads x.name) (list_any (is_before name_of prev_of links x.name) (named name_of prev_of links heads)) h)
+      complete : (i : ℕ) (x : Link) → slice_get (arrived_of links) i ≡ Some x → is_within links heads x ≡ true → get_or flags i false ≡ true
+      complete i x at h = go (or_cases (has_name heads x.name) (list_any (is_before name_of prev_of links x.name) (named name_of prev_of (order_of links) heads)) h)
         where
-          go : (has_name heads x.name ≡ true) ⊎ (list_any (is_before name_of prev_of links x.name) (named name_of prev_of links heads) ≡ true) → get_or flags i false ≡ true
+          go : (has_name heads x.name ≡ true) ⊎ (list_any (is_before name_of prev_of links x.name) (named name_of prev_of (order_of links) heads) ≡ true) → get_or flags i false ≡ true
           go (inl d) = whole.heads_too i x at d
           go (inr d) =
-              let p = any_of (is_before name_of prev_of links x.name) (named name_of prev_of links heads) d in
-              let of = of_filter (λ w. has_name heads w.name) p.0 links p.1 in
-              let k = head_given links set_of n heads given p.0 of.0 of.1 in
-              marked_back (length links) k.0 p.0 k.2 (whole.heads_too k.0 p.0 k.2 of.1) i x at p.2
+              let p = any_of (is_before name_of prev_of links x.name) (named name_of prev_of (order_of links) heads) d in
+              let of = of_filter (λ w. has_name heads w.name) p.0 (order_of links) p.1 in
+              let k = place_of_order links set_of p.0 of.0 in
+              marked_back (length links) k.0 p.0 k.1 (whole.heads_too k.0 p.0 k.1 of.1) i x at p.2
 
-      pub all_marked : flags ≡ map (λ x. is_below links heads x.name) (arrived_of links)
+      pub all_marked : flags ≡ map (is_within links heads) (arrived_of links)
       all_marked =
-          ext_get_or false flags (map (λ (x : Link). is_below links heads x.name) (arrived_of links))
-          (whole.size ∙ sym (length-map (arrived_of links) (λ (x : Link). is_below links heads x.name)))
+          ext_get_or false flags (map (is_within links heads) (arrived_of links))
+          (whole.size ∙ sym (length-map (arrived_of links) (is_within links heads)))
           (λ i h. let x = some_at (arrived_of links) i (omega (arith, h, whole.size)) in
-          same_answer (get_or flags i false) (is_below links heads (x.0).name) (whole.sound i x.0 x.1) (complete i x.0 x.1)
-          ∙ sym (map_at (λ (y : Link). is_below links heads y.name) (arrived_of links) i x.0 false x.1))
+          same_answer (get_or flags i false) (is_within links heads x.0) (whole.sound i x.0 x.1) (complete i x.0 x.1)
+          ∙ sym (map_at (is_within links heads) (arrived_of links) i x.0 false x.1))

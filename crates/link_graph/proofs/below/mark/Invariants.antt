@@ -1,7 +1,7 @@
 use Rattle.std.proofs.Common.{◌≡◌, length, take}
 use Rattle.link_graph.specs.Held.{arrived_of}
-use Rattle.replica.specs.Judged.{AreMarked}
-use Rattle.replica.proofs.below.mark.Given as goal
+use Rattle.link_graph.specs.Below.{AreMarked}
+use Rattle.link_graph.proofs.below.mark.Given as goal
 
 abbrev pub invariant-loop-name : goal.invariant-loop-name
 invariant-loop-name l = record {

@@ -2,8 +2,8 @@ use Rattle.std.proofs.Common.{◌||◌, ◌∙◌, ap, false, get_or, length, re
 use Rattle.std.proofs.lemmas.List.{take_all}
 use Rattle.std.proofs.lemmas.Option.{slice_get_read}
 use Rattle.team_sets.specs.Names.{has_name}
-use Rattle.replica.proofs.Marks.{mark_next}
-use Rattle.replica.proofs.below.mark.Goals as goal
+use Rattle.link_graph.proofs.Marks.{mark_next}
+use Rattle.link_graph.proofs.below.mark.Goals as goal
 
 pub loop-name-preserved : goal.loop-name-preserved
 loop-name-preserved c = record {

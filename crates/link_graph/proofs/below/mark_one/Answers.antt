@@ -1,6 +1,6 @@
 use Rattle.std.proofs.Common.{◌∙◌, refl, sym}
-use Rattle.replica.proofs.Marks.{mark_none, mark_some}
-use Rattle.replica.proofs.below.mark_one.Goals as goal
+use Rattle.link_graph.proofs.Marks.{mark_none, mark_some}
+use Rattle.link_graph.proofs.below.mark_one.Goals as goal
 
 pub returns-in_default-clause-marks : goal.returns-in_default-clause-marks
 returns-in_default-clause-marks c =
