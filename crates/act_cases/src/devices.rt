@@ -1,4 +1,4 @@
-//! Devices by name, and the acts that bear their keys.
+//! Devices and invitations by name, and the acts that bear their keys.
 use acts::{Act, device_of};
 use std::alloc::Global;
 use tg_text::{Bytes, DeviceId, Memory, PublicKey, write_base64, write_hex};

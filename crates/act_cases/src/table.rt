@@ -6,12 +6,13 @@ use acts::Entry;
 use std::alloc::Global;
 use team_reducer::{TeamState, apply, permits};
 use tg_outside::{Silent, Steps};
-use tg_text::{Items, KeyLines, Memory, UserName};
+use tg_text::{Items, KeyLines, Memory, UserName, read_decimal};
 
 /// The state that the lines of a table made so far, and how many of them held.
 #[derive(Drop)]
 pub struct Table {
     state: TeamState,
+    time: u64,
     held: u64,
 }
 
@@ -19,6 +20,7 @@ impl Table {
     pub fn new(alloc: Global) -> Result<Table, Memory> {
         Ok(Table {
             state: TeamState::new(alloc)?,
+            time: 0,
             held: 0,
         })
     }
@@ -58,21 +60,34 @@ impl Table {
     fn is_right(&mut self, alloc: Global, line: &str) -> Result<bool, Memory> {
         if line == "new" {
             self.state = TeamState::new(alloc)?;
+            self.time = 0;
             return Ok(true);
         }
         let Some((word, rest)) = line.split_once(' ') else {
             return Ok(false);
         };
         match word {
+            "time" => Ok(self.goes_to(rest)),
             "has" => Ok(is_so(&self.state, rest) == Some(true)),
             "lacks" => Ok(is_so(&self.state, rest) == Some(false)),
             _ => self.takes(alloc, word, rest),
         }
     }
 
+    // Whether the text is a time. The entries of the lines that follow have it.
+    fn goes_to(&mut self, text: &str) -> bool {
+        match read_decimal(text.as_bytes()) {
+            Some(time) => {
+                self.time = time;
+                true
+            }
+            None => false,
+        }
+    }
+
     // Whether the entry is permitted or refused as the word says, by both calls, and one that is refused changes nothing.
     fn takes(&mut self, alloc: Global, word: &str, text: &str) -> Result<bool, Memory> {
-        let Some(entry) = read_entry(alloc, text)? else {
+        let Some(entry) = read_entry(alloc, self.time, text)? else {
             return Ok(false);
         };
         let before = self.state.copy()?;
@@ -90,9 +105,10 @@ fn are_same(one: &TeamState, other: &TeamState) -> bool {
         && one.members() == other.members()
         && one.roles() == other.roles()
         && one.devices() == other.devices()
+        && one.invitations() == other.invitations()
 }
 
-fn read_entry(alloc: Global, text: &str) -> Result<Option<Entry>, Memory> {
+fn read_entry(alloc: Global, time: u64, text: &str) -> Result<Option<Entry>, Memory> {
     let Some((user, rest)) = text.split_once(' ') else {
         return Ok(None);
     };
@@ -108,7 +124,7 @@ fn read_entry(alloc: Global, text: &str) -> Result<Option<Entry>, Memory> {
     Ok(Some(Entry {
         user,
         device,
-        time: 0,
+        time,
         act,
         lines: KeyLines {
             news: Items::new(alloc),

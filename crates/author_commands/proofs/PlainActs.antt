@@ -5,14 +5,18 @@ use Rattle.tg_text.specs.KeySpelling.{spell_scope}
 use Rattle.tg_text.specs.Spelling.{IsPublicKey, spaced, spell_base64}
 use Rattle.tg_text.specs.declared.keys.Scope.{Scope}
 use Rattle.tg_text.specs.declared.keys.Scope.TheVariants.{Team, Role, User, Device as DeviceScope}
-use Rattle.acts.specs.ActText.{IsRotated, act_words, spell_act}
+use Rattle.acts.specs.ActText.{IsRotated, act_words, spell_act, spell_kind}
 use Rattle.acts.specs.declared.entry.Act.{Act}
-use Rattle.acts.specs.declared.entry.Act.TheVariants.{AddMember, RemoveMember, AddRole, RemoveRole, GiveRole, TakeRole, AddDevice, RemoveDevice, Rotate, Seal, Title, Join}
+use Rattle.acts.specs.declared.entry.Act.TheVariants.{AddMember, RemoveMember, AddRole, RemoveRole, GiveRole, TakeRole, AddDevice, RemoveDevice, Revoke, Rotate, Seal, Title, Join}
+use Rattle.acts.specs.declared.entry.Entry.{Entry}
+use Rattle.acts.specs.declared.entry.InviteKind.{InviteKind}
+use Rattle.acts.specs.declared.entry.InviteKind.TheVariants.{Member as of_members, Device as of_devices}
 use Rattle.team_model.specs.ActTable.{is_found}
 use Rattle.lms_tree.specs.Signatures.{public_key}
 use Rattle.lms_keep.specs.Signing.{tree_key}
 use Rattle.lms_keep.specs.declared.key_state.KeyState.{KeyState}
-use Rattle.link_text.specs.ReadYet.{is_read_yet}
+use Rattle.link_text.specs.Drafts.{draft_has_proof}
+use Rattle.link_text.specs.LinkText.{is_admitted}
 use Rattle.link_text.specs.declared.draft.Draft.{Draft}
 use Rattle.link_graph.specs.Held.{Held}
 use Rattle.outcomes.specs.declared.answer.Answer.{Answer}
@@ -31,20 +35,22 @@ use Rattle.author_commands.specs.Authoring.{authors}
 use Rattle.author_commands.specs.Plain.{plain_plan, plains}
 use Rattle.author_commands.specs.Signing.{IsSignable}
 
-pub given_read : (a : Act) → is_given a ≡ true → is_read_yet a ≡ true
-given_read (AddMember user key seal) e = refl
-given_read (RemoveMember user) e = refl
-given_read (AddRole role) e = refl
-given_read (RemoveRole role) e = refl
-given_read (GiveRole user role) e = refl
-given_read (TakeRole user role) e = refl
-given_read (AddDevice key seal) e = refl
-given_read (RemoveDevice user id) e = refl
-given_read (Rotate scope) e = refl
-given_read Seal e = refl
-given_read (Title title) e = refl
-given_read Join e = refl
-given_read _ e = absurd (false≢true e)
+-- no such act admits anybody, so none has a proof to show
+pub given_proved : (team : List ℕ) (e : Entry) (a : Act) → is_given a ≡ true → is_admitted team e a ≡ true
+given_proved team e (AddMember user key seal) h = refl
+given_proved team e (RemoveMember user) h = refl
+given_proved team e (AddRole role) h = refl
+given_proved team e (RemoveRole role) h = refl
+given_proved team e (GiveRole user role) h = refl
+given_proved team e (TakeRole user role) h = refl
+given_proved team e (AddDevice key seal) h = refl
+given_proved team e (RemoveDevice user id) h = refl
+given_proved team e (Revoke kind id) h = refl
+given_proved team e (Rotate scope) h = refl
+given_proved team e Seal h = refl
+given_proved team e (Title title) h = refl
+given_proved team e Join h = refl
+given_proved team e _ h = absurd (false≢true h)
 
 pub given_follows : (a : Act) → is_given a ≡ true → is_found a ≡ false
 given_follows (AddMember user key seal) e = refl
@@ -55,6 +61,7 @@ given_follows (GiveRole user role) e = refl
 given_follows (TakeRole user role) e = refl
 given_follows (AddDevice key seal) e = refl
 given_follows (RemoveDevice user id) e = refl
+given_follows (Revoke kind id) e = refl
 given_follows (Rotate scope) e = refl
 given_follows Seal e = refl
 given_follows (Title title) e = refl
@@ -83,6 +90,10 @@ scope_size (Role r) is = let both = length-append (codes "role:") r in let name 
 scope_size (User u) is = let both = length-append (codes "user:") u in let name = name_size u is in omega (arith, both, name)
 scope_size (DeviceScope d) is = absurd is
 
+kind_size : (kind : InviteKind) → length (spell_kind kind) ≤ 6
+kind_size of_members = omega arith
+kind_size of_devices = omega arith
+
 words_short : (a : Act) → MayGive a → room (act_words a) ≤ 65536
 words_short (AddMember user key seal) may = let u = name_size user may.range.0 in let k = key_short key may.range.1 in let s = hash_size seal may.range.2 in omega (arith, u, k, s)
 words_short (RemoveMember user) may = let u = name_size user may.range in omega (arith, u)
@@ -92,6 +103,7 @@ words_short (GiveRole user role) may = let u = name_size user may.range.0 in let
 words_short (TakeRole user role) may = let u = name_size user may.range.0 in let r = name_size role may.range.1 in omega (arith, u, r)
 words_short (RemoveDevice user id) may = let u = name_size user may.range.0 in let h = hash_size id may.range.1 in omega (arith, u, h)
 words_short (AddDevice key seal) may = let k = key_short key may.range.0 in let s = hash_size seal may.range.1 in omega (arith, k, s)
+words_short (Revoke kind id) may = let k = kind_size kind in let h = hash_size id may.range in omega (arith, k, h)
 words_short (Rotate scope) may = let s = scope_size scope may.range in omega (arith, s)
 words_short Seal may = omega arith
 words_short (Title title) may = let t = may.range.short in omega (arith, t)
@@ -112,6 +124,7 @@ plain_signable held s act time d may e draft room =
       draft = draft;
       team = sym (ap (λ (x : Draft). x.team) is);
       key = sym (ap (λ (x : Draft). x.key) is);
+      proved = subst (λ (x : Draft). draft_has_proof x ≡ true) is (given_proved held.team entry act may.given);
       room = room;
     }
 

@@ -1,7 +1,7 @@
 -- A draft for which there is room becomes a link of the team, within its limits, once it is signed.
 use Rattle.std.proofs.Common.{◌≡◌, ◌≤◌, ◌+◌, ◌==◌, ℕ, true, false, List, ◌++◌, length, decimal, Option, Some, None, refl, arith}
 use Rattle.std.specs.Option.{option_map_or}
-use Rattle.std.proofs.lemmas.Bool.{and_parts, false≢true}
+use Rattle.std.proofs.lemmas.Bool.{and_from, and_parts, false≢true}
 use Rattle.std.proofs.lemmas.Fmt.{length-decimal-le}
 use Rattle.sha2.specs.Sha256.{sha256}
 use Rattle.tg_text.specs.Limits.{most_link_bytes}
@@ -15,7 +15,7 @@ use Rattle.lms_tree.specs.Verifying.{is_signature, leads_to, verifies, verifies_
 use Rattle.lms_tree.proofs.Conditions.{fits}
 use Rattle.lms_keep.specs.declared.key_state.KeyState.{KeyState}
 use Rattle.team_model.specs.declared.terms.Link.{Link}
-use Rattle.link_text.specs.Drafts.{draft_body}
+use Rattle.link_text.specs.Drafts.{draft_body, draft_has_proof}
 use Rattle.link_text.specs.LinkText.{IsValid, IsWellFormed, Reads, sign_line, text}
 use Rattle.link_text.specs.declared.draft.Draft.{Draft}
 use Rattle.link_graph.specs.Held.{Held}
@@ -50,7 +50,7 @@ module _ (held : Held) (s : KeyState) (d : Draft) (signature : List ℕ) (signab
   reads = record { is_text = refl; well_formed = well; name = refl }
 
   pub authored_valid : IsValid held.team (text link) link
-  authored_valid = record { reads = reads; of_team = rw signable.team refl; proved = verified }
+  authored_valid = record { reads = reads; of_team = rw signable.team refl; proved = and_from (verifies d.key (draft_body d) signature) (draft_has_proof d) verified signable.proved }
 
   pub authored_space : HasSpace held.team held.links link
   authored_space =

@@ -37,7 +37,7 @@ use Rattle.author_commands.specs.Signing.{IsSound}
 use Rattle.author_commands.specs.declared.planner.Planned.{Planned}
 use Rattle.author_commands.specs.declared.planner.Planned.TheVariants.{Refuses, Writes}
 use Rattle.author_commands.specs.declared.refusal.Refusal.TheVariants.{Full, NotPermitted}
-use Rattle.author_commands.proofs.PlainActs.{act_short, given_read, plain_signable}
+use Rattle.author_commands.proofs.PlainActs.{act_short, plain_signable}
 
 -- the parents of a planned link are names of held links, which are hashes
 module _ (held : Held) (is : IsHeld held.team held.links) where
@@ -73,7 +73,7 @@ module _ (act : Act) (time : ℕ) (may : MayGive act) (low : time < 2 ^ 64) (hel
   sound_draft : (d : Draft) → planned held s key act time ≡ Ok d → IsSound held s (Writes d)
   sound_draft d e =
       let p = planned_is held s key act time d e in
-      let drafted = planned_draft held s key act time is (parents_hash held is) range (public_is (tree_key s) range.id) may.range (act_short act may) low p.permitted (given_read act may.given) in
+      let drafted = planned_draft held s key act time is (parents_hash held is) range (public_is (tree_key s) range.id) may.range (act_short act may) low p.permitted in
       plain_signable held s act time d may e (subst IsDraft p.draft drafted) (room_of held p.room)
 
   pub plain_sound : (p : Planned) → plain_plan act time held s p → IsSound held s p

@@ -1,5 +1,6 @@
 -- The file that `make` writes is a team file: its root is a link, and verifies.
 use Rattle.std.proofs.Common.{◌≡◌, ◌<◌, ◌≤◌, ◌+◌, ◌^◌, IsTrue, ℕ, List, [], ◌∷◌, Option, None, Some, length, refl, true, arith}
+use Rattle.std.proofs.lemmas.Bool.{and_from}
 use Rattle.std.specs.List.{IsDistinct}
 use Rattle.std.specs.Option.{option_map_or}
 use Rattle.sha2.specs.Sha256.{sha256}
@@ -16,12 +17,13 @@ use Rattle.lms_tree.specs.declared.lms_kind.LmsKind.TheVariants.{H5, H10, H15, H
 use Rattle.lms_tree.specs.declared.tree_key.TreeKey.{TreeKey}
 use Rattle.lms_tree.specs.LmsKinds.{leaves_of, lms_kind, lms_length, lms_row}
 use Rattle.lms_tree.specs.Signatures.{public_key, signature_of}
+use Rattle.lms_tree.specs.Verifying.{verifies}
 use Rattle.lms_tree.proofs.Verified.{key_parts, signature_parts, signed_verifies}
 use Rattle.lms_keep.specs.KeyText.{IsKeyState, leaves}
 use Rattle.lms_keep.specs.Signing.{tree_key}
 use Rattle.lms_keep.specs.declared.key_state.KeyState.{KeyState}
 use Rattle.link_text.proofs.Fields.{no_key_lines}
-use Rattle.link_text.specs.LinkText.{IsValid, IsWellFormed, Reads, act_line, first_line, key_line, proves, sign_line, team_line, text, time_line, user_line}
+use Rattle.link_text.specs.LinkText.{IsValid, IsWellFormed, Reads, act_line, body, first_line, has_proof, key_line, proves, sign_line, team_line, text, time_line, user_line}
 use Rattle.link_text.specs.Drafts.{draft_body}
 use Rattle.link_text.specs.TeamFile.{IsHeld}
 use Rattle.link_text.specs.declared.draft.Draft.{Draft}
@@ -81,7 +83,6 @@ module _ (user key seal title : List ℕ) (time : ℕ) (signature name : List �
       parents_ascend = tt;
       root_without_parents = (λ e. refl, λ e. refl);
       root_founds = (λ e. tt, λ e. refl);
-      read_yet = refl;
     };
     fits = omega (arith, founded_short);
   }
@@ -144,7 +145,7 @@ module _ (public_of : List ℕ → List ℕ) (s : KeyState) (title : List ℕ) (
       (bytes_signature (tree_key s) s.next (draft_body draft))
 
   made_proves : proves made ≡ true
-  made_proves = signed_verifies (tree_key s) s.next (draft_body draft) is.id.size in_tree
+  made_proves = and_from (verifies made.key (body made) made.signature) (has_proof made) (signed_verifies (tree_key s) s.next (draft_body draft) is.id.size in_tree) refl
 
   made_reads : Reads (text made) made
   made_reads = record { is_text = refl; well_formed = made_well; name = refl }

@@ -2,7 +2,6 @@ pub mod Drafts
 pub mod Faults
 pub mod KeyRanges
 pub mod LinkText
-pub mod ReadYet
 pub mod Takes
 pub mod TeamFile
 pub mod TeamReading

@@ -1,6 +1,6 @@
 -- The text of a link, which links are well-formed, which verify, and of which team a link is.
 use Rattle.std.specs.List.{AllByRecursion}
-use Rattle.std.specs.Prelude.{◌≡◌, ◌<◌, ◌^◌, ℕ, ◌≤◌, ◌↔◌, Bool, true, List, [], ◌∷◌, ◌++◌, length, codes, flat_map, Option, IsTrue, IsNone, MatchOption}
+use Rattle.std.specs.Prelude.{◌≡◌, ◌<◌, ◌^◌, ℕ, ◌≤◌, ◌↔◌, Bool, true, ◌&&◌, List, [], ◌∷◌, ◌++◌, length, codes, flat_map, Option, IsTrue, IsNone, MatchOption}
 use Rattle.std.specs.Option.{option_map_or}
 use Rattle.sha2.specs.Sha256.{sha256}
 use Rattle.lms_tree.specs.Verifying.{verifies}
@@ -11,10 +11,13 @@ use Rattle.tg_text.specs.Spelling.{spell_decimal, spell_hex, spell_base64, space
 use Rattle.tg_text.specs.declared.keys.KeyId.{KeyId}
 use Rattle.tg_text.specs.declared.keys.BoxLine.{BoxLine}
 use Rattle.acts.specs.ActText.{act_words, IsActInRange, IsFound}
+use Rattle.acts.specs.ProofText.{proof_body}
 use Rattle.acts.specs.declared.entry.Act.{Act}
+use Rattle.acts.specs.declared.entry.Act.TheVariants.{AdmitMember, AdmitDevice}
+use Rattle.acts.specs.declared.entry.Entry.{Entry}
+use Rattle.acts.specs.declared.entry.InviteKind.TheVariants.{Member, Device}
 use Rattle.team_model.specs.declared.terms.Link.{Link}
 use Rattle.link_text.specs.KeyRanges.{AreKeyLines}
-use Rattle.link_text.specs.ReadYet.{is_read_yet}
 
 -- The lines of a link, each a list of fields.
 abbrev pub first_line : List (List ℕ)
@@ -88,13 +91,12 @@ pub record HasFields (l : Link) : Type 0 where
   pub key_lines : AreKeyLines l.entry.lines
   pub signature_bytes : AreBytes l.signature
 
--- The link keeps the rules on its fields together, and its act is read yet.
+-- The link keeps the rules on its fields together.
 pub record KeepsRules (l : Link) : Type 0 where
   pub few_parents : length l.prev ≤ 64
   pub parents_ascend : Ascends l.prev
   pub root_without_parents : (l.prev ≡ []) ↔ IsNone l.team
   pub root_founds : (l.prev ≡ []) ↔ IsFound l.entry.act
-  pub read_yet : IsTrue (is_read_yet l.entry.act)
 
 -- The fields of the link are in their ranges, it keeps the rules on them, and its text isn't too long.
 pub record IsWellFormed (l : Link) : Type 0 where
@@ -114,9 +116,19 @@ pub record Reads (bytes : List ℕ) (l : Link) : Type 0 where
   pub well_formed : IsWellFormed l
   pub name : l.name ≡ sha256 bytes
 
--- Whether the signature verifies over the body under the author's key. What else a link has to prove joins it here.
+-- Whether the proof of an admission verifies under the invitation's key, over its proof body with this team. Other acts show none.
+abbrev pub is_admitted : Name → Entry → Act → Bool
+is_admitted team e (AdmitMember user key seal by proof) = verifies by (proof_body (record { team = team; kind = Member; user = user; key = key; seal = seal })) proof
+is_admitted team e (AdmitDevice key seal by proof) = verifies by (proof_body (record { team = team; kind = Device; user = e.user; key = key; seal = seal })) proof
+is_admitted team e _ = true
+
+-- Whether an admission that the link makes is proved. A link that names no team founds one, and makes none.
+abbrev pub has_proof : Link → Bool
+has_proof l = option_map_or (λ team. is_admitted team l.entry l.entry.act) l.team true
+
+-- Whether the signature verifies over the body under the author's key, and an admission is proved.
 abbrev pub proves : Link → Bool
-proves l = verifies l.key (body l) l.signature
+proves l = verifies l.key (body l) l.signature && has_proof l
 
 -- The bytes are the link: they are its text, and it proves what it says.
 pub record IsLink (bytes : List ℕ) (l : Link) : Type 0 where

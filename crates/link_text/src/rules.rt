@@ -1,8 +1,7 @@
-//! The rules on the fields of a link together, and which acts it may have so far.
-ghost use Rattle.std.specs.Prelude.{◌≡◌, ◌↔◌, IsTrue};
+//! The rules on the fields of a link together.
+ghost use Rattle.std.specs.Prelude.{◌↔◌, IsTrue};
 ghost use Rattle.acts.specs.ActText.{IsFound};
 ghost use Rattle.link_text.specs.LinkText.{Ascends, KeepsRules};
-ghost use Rattle.link_text.specs.ReadYet.{is_read_yet};
 
 use acts::Act;
 use team_model::Link;
@@ -19,34 +18,12 @@ pub(crate) fn keeps_rules(link: &Link) -> bool
         && ascends(link.prev.as_slice())
         && is_root == link.team.is_none()
         && is_root == is_found(&link.entry.act)
-        && is_read_yet(&link.entry.act)
 }
 
 fn is_found(act: &Act) -> bool
     ensures { IsTrue result ↔ IsFound act.now }
 {
     matches!(act, Act::Found { .. })
-}
-
-fn is_read_yet(act: &Act) -> bool
-    ensures { result ≡ is_read_yet act.now }
-{
-    match act {
-        Act::Found { .. } => true,
-        Act::AddMember { .. } => true,
-        Act::RemoveMember { .. } => true,
-        Act::AddRole { .. } => true,
-        Act::RemoveRole { .. } => true,
-        Act::GiveRole { .. } => true,
-        Act::TakeRole { .. } => true,
-        Act::AddDevice { .. } => true,
-        Act::RemoveDevice { .. } => true,
-        Act::Rotate { .. } => true,
-        Act::Seal => true,
-        Act::Title { .. } => true,
-        Act::Join => true,
-        _ => false,
-    }
 }
 
 /// Whether each name is before the next.

@@ -4,7 +4,7 @@
 use Rattle.std.specs.Prelude.{◌≡◌, ℕ, false, List, [], ◌∷◌, ◌++◌, map, codes, None}
 use Rattle.team_sets.specs.Names.{Name}
 use Rattle.acts.specs.declared.entry.Act.{Act}
-use Rattle.acts.specs.declared.entry.Act.TheVariants.{Found, AddMember, RemoveMember, AddRole, GiveRole, TakeRole, AddDevice, RemoveDevice, Title}
+use Rattle.acts.specs.declared.entry.Act.TheVariants.{Found, AddMember, RemoveMember, AddRole, GiveRole, TakeRole, AddDevice, RemoveDevice, InviteMember, InviteDevice, AdmitMember, AdmitDevice, Title}
 use Rattle.team_model.specs.Judging.{Rules, rules_by, team, verdict}
 use Rattle.team_model.specs.State.{admin, is_listed}
 use Rattle.team_model.specs.declared.terms.Link.{Link}
@@ -134,3 +134,32 @@ leaving = pair ++ link 9 (32 ∷ []) 2 (remove 2) ∷ link 8 (32 ∷ []) 2 (add 
 
 abbrev pub LeavingRow : Type 0
 LeavingRow = (verdicts leaving ≡ Counts ∷ Counts ∷ Counts ∷ Counts ∷ Struck (9 ∷ []) ∷ []) × (users leaving ≡ (1 ∷ []) ∷ [])
+
+-- ann takes `admin` from bo, and beside it bo invites members, and devices of his own
+abbrev invitations : List Link
+invitations = pair ++ link 9 (32 ∷ []) 1 (TakeRole (2 ∷ []) admin) ∷ link 8 (32 ∷ []) 2 (InviteMember (60 ∷ []) 2 0)
+    ∷ link 7 (32 ∷ []) 2 (InviteDevice (61 ∷ []) 2 0) ∷ []
+
+-- what only an admin may open is struck
+abbrev pub InvitationStruckRow : Type 0
+InvitationStruckRow = verdicts invitations ≡ Counts ∷ Counts ∷ Counts ∷ Counts ∷ Struck (9 ∷ []) ∷ Counts ∷ []
+
+-- a proof that names the first leaf
+abbrev first_leaf : List ℕ
+first_leaf = 0 ∷ 0 ∷ 0 ∷ 0 ∷ []
+
+-- ann invites members, adds di and removes her, and beside both bo admits di by the invitation
+abbrev admission : List Link
+admission = pair ++ link 33 (32 ∷ []) 1 (InviteMember (60 ∷ []) 2 0) ∷ link 34 (33 ∷ []) 1 (add 4) ∷ link 9 (34 ∷ []) 1 (remove 4)
+    ∷ link 8 (33 ∷ []) 2 (AdmitMember (4 ∷ []) (40 ∷ []) [] (60 ∷ []) first_leaf) ∷ []
+
+-- bo invites devices, adds one and removes it, and beside both he admits it by the invitation
+abbrev device_admission : List Link
+device_admission = pair ++ link 33 (32 ∷ []) 2 (InviteDevice (61 ∷ []) 2 0) ∷ link 34 (33 ∷ []) 2 (AddDevice (40 ∷ []) []) ∷ link 9 (34 ∷ []) 2 (RemoveDevice (2 ∷ []) (40 ∷ []))
+    ∷ link 8 (33 ∷ []) 2 (AdmitDevice (40 ∷ []) [] (61 ∷ []) first_leaf) ∷ []
+
+-- a removal strikes an admission as it strikes an addition
+abbrev pub AdmissionStruckRow : Type 0
+AdmissionStruckRow = (verdicts admission ≡ Counts ∷ Counts ∷ Counts ∷ Counts ∷ Counts ∷ Counts ∷ Struck (9 ∷ []) ∷ []) × (users admission ≡ (1 ∷ []) ∷ (2 ∷ []) ∷ [])
+    × (verdicts device_admission ≡ Counts ∷ Counts ∷ Counts ∷ Counts ∷ Counts ∷ Counts ∷ Struck (9 ∷ []) ∷ [])
+    × (is_listed (team own_rules device_admission) (40 ∷ []) ≡ false)

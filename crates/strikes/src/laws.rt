@@ -1,6 +1,6 @@
 ghost use Rattle.strikes.specs.Noted.{NotedIsLeast};
 ghost use Rattle.strikes.specs.RemovalLaws.{GivesBack, OutrankedByStanding, ResolvedUnlessStruck, SeenIsKept, SeniorStands, StandingAreResolved, StruckByStanding, UnlawfulHasNoEffect};
-ghost use Rattle.strikes.specs.RemovalRows.{BranchesRow, DeviceStruckRow, GiftStruckRow, JuniorBranchRow, LeavingRow, OutsiderRow, SeenRow, SeniorBranchRow, StruckGiftRow};
+ghost use Rattle.strikes.specs.RemovalRows.{AdmissionStruckRow, BranchesRow, DeviceStruckRow, GiftStruckRow, InvitationStruckRow, JuniorBranchRow, LeavingRow, OutsiderRow, SeenRow, SeniorBranchRow, StruckGiftRow};
 
 /// What is kept when places are noted one by one is the least of those noted for each user.
 pub fn noted_is_least()
@@ -67,4 +67,11 @@ pub fn worked_removals()
 pub fn worked_strikes()
     ensures device { DeviceStruckRow }
     ensures role { GiftStruckRow }
+{}
+
+/// What becomes of invitations and admissions beside a removal.
+#[tactic(auto, unfolding(team_model::specs::KeyLines::lined, team_model::specs::KeyLines::with_lines, tg_text::specs::Spelling::number_at))]
+pub fn worked_invitations()
+    ensures invitations { InvitationStruckRow }
+    ensures admissions { AdmissionStruckRow }
 {}

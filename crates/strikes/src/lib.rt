@@ -14,8 +14,8 @@ mod striking;
 pub use brought::{brings_device, brings_user};
 pub use laws::{
     gives_back, noted_is_least, outranked_by_standing, resolved_unless_struck, seen_is_kept,
-    senior_stands, struck_by_standing, unlawful_has_no_effect, worked_branches, worked_removals,
-    worked_strikes,
+    senior_stands, struck_by_standing, unlawful_has_no_effect, worked_branches, worked_invitations,
+    worked_removals, worked_strikes,
 };
 pub use seniority::Seniority;
 pub use striking::{is_striking, strikes};

@@ -1,5 +1,5 @@
 -- A planned link is well-formed but for its signature.
-use Rattle.std.proofs.Common.{◌≡◌, ◌≢◌, ◌<◌, ◌≤◌, ◌^◌, ℕ, Bool, true, false, cond, IsTrue, List, [], length, Option, Some, None, refl, sym, ◌∙◌, ap, arith}
+use Rattle.std.proofs.Common.{◌≡◌, ◌≢◌, ◌<◌, ◌≤◌, ◌^◌, ℕ, Bool, true, false, cond, List, [], length, Option, Some, None, refl, sym, ◌∙◌, ap, arith}
 use Rattle.std.specs.List.{AllByRecursion, list_any}
 use Rattle.std.proofs.lemmas.Bool.{false≢true}
 use Rattle.tg_text.specs.Spelling.{IsHash, IsPublicKey}
@@ -25,7 +25,6 @@ use Rattle.lms_keep.specs.declared.key_state.KeyState.{KeyState}
 use Rattle.link_text.proofs.Fields.{no_key_lines}
 use Rattle.link_text.specs.Drafts.{link_of}
 use Rattle.link_text.specs.LinkText.{text}
-use Rattle.link_text.specs.ReadYet.{is_read_yet}
 use Rattle.link_text.specs.TeamFile.{IsHeld}
 use Rattle.link_graph.specs.Held.{Held}
 use Rattle.replica.specs.Below.{is_below, with_pasts}
@@ -65,7 +64,7 @@ some_parents links e other permitted none =
 
 module _ (held : Held) (s : KeyState) (key : List ℕ) (act : Act) (time : ℕ) (held_is : IsHeld held.team held.links) (names : AllByRecursion IsHash (parents_of held.links))
     (is : IsKeyState s) (keyed : IsPublicKey key) (range : IsActInRange act) (short : length (spell_act act) ≤ most_act_bytes) (fits : time < 2 ^ 64)
-    (permitted : refusal (base_of held.links) (entry_of s key act time) ≡ None) (read : IsTrue (is_read_yet act)) where
+    (permitted : refusal (base_of held.links) (entry_of s key act time) ≡ None) where
   abbrev entry : Entry
   entry = entry_of s key act time
 
@@ -93,7 +92,6 @@ module _ (held : Held) (s : KeyState) (key : List ℕ) (act : Act) (time : ℕ) 
           parents_ascend = tt;
           root_without_parents = (λ e. refl, λ e. refl);
           root_founds = (λ h. found_is act e, λ h. refl);
-          read_yet = read;
         };
         fits = omega (arith, size);
       }
@@ -120,7 +118,6 @@ module _ (held : Held) (s : KeyState) (key : List ℕ) (act : Act) (time : ℕ) 
           parents_ascend = heads_ascend held.links 64 set;
           root_without_parents = (λ none. absurd (some_parents held.links entry e permitted none), λ none. cc);
           root_founds = (λ none. absurd (some_parents held.links entry e permitted none), λ h. absurd (not_found act e h));
-          read_yet = read;
         };
         fits = omega (arith, size);
       }

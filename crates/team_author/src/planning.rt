@@ -1,9 +1,8 @@
-ghost use Rattle.std.specs.Prelude.{◌≡◌, ◌≤◌, length, IfOk, IsTrue};
+ghost use Rattle.std.specs.Prelude.{◌≡◌, ◌≤◌, length, IfOk};
 ghost use Rattle.std.specs.List.{AllByRecursion};
 ghost use Rattle.tg_text.specs.Spelling.{IsHash, IsPublicKey};
 ghost use Rattle.acts.specs.ActText.{IsActInRange, spell_act};
 ghost use Rattle.lms_keep.specs.KeyText.{IsKeyState};
-ghost use Rattle.link_text.specs.ReadYet.{is_read_yet};
 ghost use Rattle.link_graph.specs.Taking.{HasSpace};
 ghost use Rattle.replica.specs.Below.{AreConnected};
 ghost use Rattle.team_model.specs.ActTable.{is_found};
@@ -44,7 +43,7 @@ pub fn plan_plain(
     requires act { IsActInRange act.now }
     requires short { length (spell_act act.now) ≤ most_act_bytes }
     ensures plan { IsPlanned (planned replica.now author.now key.now act.now time) result }
-    ensures draft { IfOk result (λ draft. IsTrue (is_read_yet act.now) → IsDraft draft) }
+    ensures draft { IfOk result (λ draft. IsDraft draft) }
     ensures room { IfOk result (λ _. HasRoom replica.now) }
 {
     // A law: it does nothing at run time.

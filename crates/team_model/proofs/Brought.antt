@@ -14,11 +14,11 @@ use Rattle.team_sets.proofs.OrderLeast.{in_filter, of_filter}
 use Rattle.team_sets.proofs.Pasts.{any_of, same_name-is}
 use Rattle.team_sets.proofs.Sorted.{put_to}
 use Rattle.acts.specs.declared.entry.Act.{Act}
-use Rattle.acts.specs.declared.entry.Act.TheVariants.{Found, AddMember, RemoveMember, GiveRole, TakeRole, RemoveDevice}
+use Rattle.acts.specs.declared.entry.Act.TheVariants.{Found, AddMember, RemoveMember, GiveRole, TakeRole, RemoveDevice, Revoke, AdmitMember, AdmitDevice}
 use Rattle.acts.specs.declared.entry.Entry.{Entry}
 use Rattle.team_model.specs.State.{State, device_row, drop_row, empty_state, has_role, lists_device, lists_user, put_row}
-use Rattle.team_model.specs.Writes.{unlisted, with_device, with_roles, without_device}
-use Rattle.team_model.specs.ActTable.{after_by, conditions_by, effect_by, first_reason, is_found, refusal_by, row_of}
+use Rattle.team_model.specs.Writes.{unlisted, with_closed, with_device, with_roles, without_device}
+use Rattle.team_model.specs.ActTable.{after_by, conditions_by, effect_by, first_reason, is_found, refusal_by, row_of, with_proof_used}
 use Rattle.team_model.specs.Strikes.{brings_user, brought_user}
 use Rattle.team_model.specs.Judging.{Rules, lawful, name_of, order_of, past_of, place_of, prev_of, resolved_from, rules_by, stays, standing_strikers, team, unlawful_reason}
 use Rattle.team_model.specs.CountingLaws.{BringIn, GivesSeniority, IsByListed}
@@ -28,6 +28,7 @@ use Rattle.team_model.specs.declared.terms.Member.{Member}
 use Rattle.team_model.specs.declared.terms.Reason.{Reason}
 use Rattle.team_model.specs.declared.terms.Reason.TheVariants.{NotListed}
 use Rattle.team_model.specs.KeyLines.{lined}
+use Rattle.team_model.proofs.Invited.{closed-only, proof_used-only, same_members}
 use Rattle.team_model.proofs.Lined.{lined-is}
 use Rattle.team_model.proofs.PastTeams.{team-past}
 
@@ -135,6 +136,14 @@ module _ (device_of : List ℕ → Name) where
   by_effect s e u (TakeRole user role) p h =
       inl (written s user u _ (holder_listed user role s.members (takes_from_holder s e user role (own_row s e (TakeRole user role) p))) h)
   by_effect s e u (RemoveDevice user id) p h = inl (subst (λ ms. list_any (λ m. same_name m.user u) ms ≡ true) (members_without_device s id) h)
+  by_effect s e u (Revoke kind id) p h = inl (subst (λ ms. list_any (λ m. same_name m.user u) ms ≡ true) (same_members s (with_closed s id) (closed-only s id)) h)
+  by_effect s e u (AdmitMember user key seal by proof) p h =
+      let t = with_proof_used s (device_of by) proof in
+      subst (λ ms. (list_any (λ m. same_name m.user u) ms ≡ true) ⊎ (same_name user u ≡ true)) (same_members s t (proof_used-only s (device_of by) proof))
+      (put_lists (record { user = user; roles = _ }) t.members u h)
+  by_effect s e u (AdmitDevice key seal by proof) p h =
+      let t = with_proof_used s (device_of by) proof in
+      inl (subst (λ ms. list_any (λ m. same_name m.user u) ms ≡ true) (same_members s t (proof_used-only s (device_of by) proof)) h)
   by_effect s e u _ p h = inl h
 
   users : (s : State) (e : Entry) (u : Name) → lists_user (after_by device_of s e) u ≡ true → (lists_user s u ≡ true) ⊎ (brings_user e u ≡ true)

@@ -1,6 +1,7 @@
 pub mod Brought
 pub mod Counting
 pub mod FullBoxes
+pub mod Invited
 pub mod Keyless
 pub mod Lined
 pub mod OfOrder

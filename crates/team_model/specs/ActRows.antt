@@ -1,16 +1,18 @@
--- Worked rows of the act table. Names of one byte are enough, and here the id of a device is its key.
+-- Worked rows of the act table. Names of one byte are enough, and here the id of a device or an invitation is its key.
 use Rattle.std.specs.Prelude.{◌≡◌, ℕ, List, [], ◌∷◌, ◌++◌, fold, map, replicate, codes, Option, Some, None}
 use Rattle.team_sets.specs.Names.{Name}
 use Rattle.acts.specs.declared.entry.Act.{Act}
-use Rattle.acts.specs.declared.entry.Act.TheVariants.{Found, AddMember, RemoveMember, AddRole, RemoveRole, GiveRole, TakeRole, AddDevice, RemoveDevice, Rotate, Seal, Title, Join}
+use Rattle.acts.specs.declared.entry.Act.TheVariants.{Found, AddMember, RemoveMember, AddRole, RemoveRole, GiveRole, TakeRole, AddDevice, RemoveDevice, InviteMember, InviteDevice, Revoke, AdmitMember, AdmitDevice, Rotate, Seal, Title, Join}
 use Rattle.acts.specs.declared.entry.Entry.{Entry}
+use Rattle.acts.specs.declared.entry.InviteKind.TheVariants.{Member as of_members, Device as of_devices}
 use Rattle.tg_text.specs.declared.keys.Scope.TheVariants.{Team, Role, User}
 use Rattle.team_model.specs.ActTable.{after_by, refusal_by}
 use Rattle.team_model.specs.State.{State, admin, empty_state}
-use Rattle.team_model.specs.Writes.{listed_device, unlisted}
+use Rattle.team_model.specs.Writes.{closed, listed_device, opened_invitation, unlisted, used_at}
+use Rattle.team_model.specs.declared.terms.Invitation.{Invitation}
 use Rattle.team_model.specs.declared.terms.Member.{Member}
 use Rattle.team_model.specs.declared.terms.Reason.{Reason}
-use Rattle.team_model.specs.declared.terms.Reason.TheVariants.{NotListed, NotAdmin, NotYours, Present, Absent, LastAdmin, LastDevice, WasRemoved, TooMany, Reserved, NotEmpty}
+use Rattle.team_model.specs.declared.terms.Reason.TheVariants.{NotListed, NotAdmin, NotYours, Present, Absent, LastAdmin, LastDevice, WasRemoved, NoInvite, Spent, Expired, TooMany, Reserved, NotEmpty}
 
 abbrev own_key : List ℕ → Name
 own_key key = key
@@ -137,3 +139,112 @@ RotationRow =
 abbrev pub TitleRow : Type 0
 TitleRow = (refusals crew (by bo (Title (codes "Ours")) ∷ by ann (Title (codes "Low tide")) ∷ []) ≡ Some NotAdmin ∷ None ∷ [])
     × ((after_all crew (by ann (Title (codes "Low tide")) ∷ [])).title ≡ Some (codes "Low tide"))
+
+-- an invitation of members by ann, with two uses and up to 5000, and one of devices by bo, with one use and without end
+abbrev for_members : Invitation
+for_members = opened_invitation (60 ∷ []) of_members ann 2 5000
+
+abbrev for_devices : Invitation
+for_devices = opened_invitation (61 ∷ []) of_devices bo 1 0
+
+-- the tables of the crew, as `FoundingRow` has them, with invitations
+abbrev crew_with : List Invitation → State
+crew_with invitations = record {
+  title = Some (codes "Reef crew");
+  members = member ann (admin ∷ []) ∷ member bo (editor ∷ []) ∷ member cy [] ∷ [];
+  roles = admin ∷ editor ∷ [];
+  devices = listed_device ann [] ann ∷ listed_device bo [] bo ∷ listed_device cy [] cy ∷ listed_device (31 ∷ []) [] cy ∷ unlisted (listed_device (32 ∷ []) [] cy) ∷ [];
+  invitations = invitations;
+  currents = [];
+  boxes = [];
+}
+
+-- both are open
+abbrev inviting : State
+inviting = crew_with (for_members ∷ for_devices ∷ [])
+
+-- that of members is closed
+abbrev revoked : State
+revoked = crew_with (closed for_members ∷ for_devices ∷ [])
+
+abbrev invite : Name → Act
+invite id = InviteMember id 2 5000
+
+abbrev invite_device : Name → Act
+invite_device id = InviteDevice id 1 0
+
+abbrev revoke : Name → Act
+revoke id = Revoke of_members id
+
+abbrev revoke_device : Name → Act
+revoke_device id = Revoke of_devices id
+
+-- only an admin invites members, and each one invites his own devices
+abbrev pub InvitationRow : Type 0
+InvitationRow = ((after_all (crew_with []) (by ann (invite (60 ∷ [])) ∷ [])).invitations ≡ for_members ∷ [])
+    × ((after_all (crew_with (for_members ∷ [])) (by bo (invite_device (61 ∷ [])) ∷ [])).invitations ≡ for_members ∷ for_devices ∷ [])
+    × (refusals inviting (by bo (invite (62 ∷ [])) ∷ by cy (invite_device (62 ∷ [])) ∷ by di (invite_device (62 ∷ [])) ∷ []) ≡ Some NotAdmin ∷ None ∷ Some NotListed ∷ [])
+
+-- an invitation is never opened twice, whatever its kind
+abbrev pub OpenedOnceRow : Type 0
+OpenedOnceRow =
+    (refusals inviting (by ann (invite (60 ∷ [])) ∷ by ann (invite (61 ∷ [])) ∷ by cy (invite_device (60 ∷ [])) ∷ []) ≡ Some Present ∷ Some Present ∷ Some Present ∷ [])
+    × (refusals revoked (by ann (invite (60 ∷ [])) ∷ by bo (invite_device (60 ∷ [])) ∷ []) ≡ Some WasRemoved ∷ Some WasRemoved ∷ [])
+
+-- so many are open at most
+abbrev pub ManyInvitationsRow : Type 0
+ManyInvitationsRow =
+    (refusals (crew_with (replicate 255 for_members)) (by ann (invite (61 ∷ [])) ∷ by bo (invite_device (61 ∷ [])) ∷ []) ≡ None ∷ None ∷ [])
+    × (refusals (crew_with (replicate 256 for_members)) (by ann (invite (61 ∷ [])) ∷ by bo (invite_device (61 ∷ [])) ∷ []) ≡ Some TooMany ∷ Some TooMany ∷ [])
+
+-- an invitation of members is any admin's to revoke, and one of devices its owner's alone, also where the owner was removed
+abbrev pub RevocationRow : Type 0
+RevocationRow =
+    (refusals inviting (by bo (revoke (60 ∷ [])) ∷ by bo (revoke (62 ∷ [])) ∷ by ann (revoke (61 ∷ [])) ∷ by ann (revoke (60 ∷ [])) ∷ []) ≡ Some NotAdmin ∷ Some NotAdmin ∷ Some NoInvite ∷ None ∷ [])
+    × (refusals inviting (by ann (revoke_device (60 ∷ [])) ∷ by ann (revoke_device (61 ∷ [])) ∷ by bo (revoke_device (61 ∷ [])) ∷ []) ≡ Some NoInvite ∷ Some NotYours ∷ None ∷ [])
+    × ((after_all inviting (by ann (revoke (60 ∷ [])) ∷ [])).invitations ≡ closed for_members ∷ for_devices ∷ [])
+    × (refusals revoked (by ann (revoke (60 ∷ [])) ∷ []) ≡ Some NoInvite ∷ [])
+    × (refusals (after_all revoked (by ann (RemoveMember bo) ∷ [])) (by ann (revoke_device (61 ∷ [])) ∷ []) ≡ Some NotYours ∷ [])
+
+-- a proof that names a leaf: its number in four bytes, and then whatever the signature has
+abbrev proof : ℕ → List ℕ
+proof leaf = 0 ∷ 0 ∷ 0 ∷ leaf ∷ 9 ∷ []
+
+abbrev at : ℕ → Entry → Entry
+at time e = record e { time = time }
+
+-- bo admits a user by a leaf of the invitation
+abbrev admission : Name → ℕ → Entry
+admission u leaf = by bo (AdmitMember u u [] (60 ∷ []) (proof leaf))
+
+-- any member admits by an open invitation of members, up to the time of its expiry, and by each of its leaves once
+abbrev pub AdmissionRow : Type 0
+AdmissionRow =
+    (refusals inviting (by bo (AdmitMember di di [] (61 ∷ []) (proof 0)) ∷ by bo (AdmitMember di di [] (62 ∷ []) (proof 0)) ∷ at 5001 (admission di 0) ∷ at 5001 (admission di 2) ∷ at 5000 (admission di 0) ∷ [])
+    ≡ Some NoInvite ∷ Some NoInvite ∷ Some Expired ∷ Some Expired ∷ None ∷ [])
+    × (refusals inviting (admission di 2 ∷ admission di 32 ∷ by bo (AdmitMember di di [] (60 ∷ []) (0 ∷ 0 ∷ 0 ∷ [])) ∷ by bo (AdmitMember di di [] (60 ∷ []) []) ∷ admission bo 2 ∷ [])
+    ≡ Some Spent ∷ Some Spent ∷ Some Spent ∷ Some Spent ∷ Some Spent ∷ [])
+    × (refusals inviting (admission bo 1 ∷ by bo (AdmitMember di bo [] (60 ∷ []) (proof 1)) ∷ by bo (AdmitMember di (32 ∷ []) [] (60 ∷ []) (proof 1)) ∷ admission di 1 ∷ []) ≡ Some Present ∷ Some Present ∷ Some WasRemoved ∷ None ∷ [])
+    × (refusals (many_devices 64 inviting) (admission di 1 ∷ []) ≡ Some TooMany ∷ [])
+
+-- what an admission does: the leaf is used, and the user comes as with an addition
+abbrev pub AdmittedRow : Type 0
+AdmittedRow = ((after_all inviting (admission di 1 ∷ [])).invitations ≡ used_at 1 for_members ∷ for_devices ∷ [])
+    × ((after_all inviting (admission di 1 ∷ [])).members ≡ (after_all inviting (by ann (add di) ∷ [])).members)
+    × ((after_all inviting (admission di 1 ∷ [])).devices ≡ (after_all inviting (by ann (add di) ∷ [])).devices)
+    × (refusals (crew_with (used_at 1 for_members ∷ [])) (admission (5 ∷ []) 1 ∷ admission (5 ∷ []) 0 ∷ []) ≡ Some Spent ∷ None ∷ [])
+    × (map (λ i. i.used) (after_all (crew_with (used_at 1 for_members ∷ [])) (admission (5 ∷ []) 0 ∷ [])).invitations ≡ 3 ∷ [])
+    × (refusals revoked (admission di 0 ∷ []) ≡ Some NoInvite ∷ [])
+
+-- a user admits a device
+abbrev device_admission : Name → Name → Name → ℕ → Entry
+device_admission u device id leaf = by u (AdmitDevice device [] id (proof leaf))
+
+-- a device is admitted by its owner, by an open invitation of his devices
+abbrev pub DeviceAdmissionRow : Type 0
+DeviceAdmissionRow =
+    (refusals inviting (device_admission bo (21 ∷ []) (60 ∷ []) 0 ∷ device_admission ann (21 ∷ []) (61 ∷ []) 0 ∷ device_admission ann (21 ∷ []) (61 ∷ []) 1 ∷ device_admission bo (21 ∷ []) (61 ∷ []) 1
+    ∷ device_admission bo bo (61 ∷ []) 0 ∷ device_admission bo (32 ∷ []) (61 ∷ []) 0 ∷ device_admission bo (21 ∷ []) (61 ∷ []) 0 ∷ [])
+    ≡ Some NoInvite ∷ Some NotYours ∷ Some NotYours ∷ Some Spent ∷ Some Present ∷ Some WasRemoved ∷ None ∷ [])
+    × ((after_all inviting (device_admission bo (21 ∷ []) (61 ∷ []) 0 ∷ [])).invitations ≡ for_members ∷ used_at 0 for_devices ∷ [])
+    × ((after_all inviting (device_admission bo (21 ∷ []) (61 ∷ []) 0 ∷ [])).devices ≡ (after_all inviting (by bo (AddDevice (21 ∷ []) []) ∷ [])).devices)

@@ -19,6 +19,14 @@ most_devices = 8
 abbrev pub most_roles : ℕ
 most_roles = 32
 
+-- How many invitations are open at most, of both kinds together.
+abbrev pub most_invitations : ℕ
+most_invitations = 256
+
+-- How many leaves an invitation has: as many as the tree of its key.
+abbrev pub invitation_leaves : ℕ
+invitation_leaves = 32
+
 -- How many boxes are held at most.
 abbrev pub most_boxes : ℕ
 most_boxes = 65536

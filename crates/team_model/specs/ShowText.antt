@@ -1,10 +1,11 @@
 -- What `show` prints.
-use Rattle.std.specs.Prelude.{ℕ, ◌-◌, Bool, not, if◌then◌else◌, List, [], ◌∷◌, ◌++◌, length, filter, codes, flat_map}
+use Rattle.std.specs.Prelude.{ℕ, ◌-◌, Bool, not, if◌then◌else◌, List, [], ◌∷◌, ◌++◌, length, filter, codes, count_ones, flat_map}
 use Rattle.std.specs.Option.{option_map_or}
 use Rattle.team_sets.specs.Names.{Name, same_name, name_lt, ascending}
 use Rattle.tg_text.specs.declared.keys.KeyId.{KeyId}
 use Rattle.tg_text.specs.KeySpelling.{spell_key_id, spell_scope}
 use Rattle.tg_text.specs.Spelling.{spell_decimal, spell_hex, line_of}
+use Rattle.acts.specs.ActText.{spell_kind}
 use Rattle.key_reach.specs.declared.debt.Debt.{Debt}
 use Rattle.key_reach.specs.declared.debt.Debt.TheVariants.{NoKey, Tainted, Unreached}
 use Rattle.key_reach.specs.Debts.{debts}
@@ -15,6 +16,7 @@ use Rattle.team_model.specs.State.{State}
 use Rattle.team_model.specs.Judging.{order_of, team, team_rules}
 use Rattle.team_model.specs.declared.terms.Link.{Link}
 use Rattle.team_model.specs.declared.terms.Device.{Device}
+use Rattle.team_model.specs.declared.terms.Invitation.{Invitation}
 
 -- how many links count
 abbrev pub count_counting : List Link → ℕ
@@ -32,6 +34,16 @@ device_lines s = flat_map (λ d. line_of (codes "device" ∷ d.user ∷ spell_he
 
 abbrev pub role_lines : State → List ℕ
 role_lines s = flat_map (λ r. line_of (codes "role" ∷ r ∷ [])) s.roles
+
+-- the id and the kind of an invitation, how many uses it has and how many of them are used, and up to when it is open
+abbrev pub invitation_line : Invitation → List ℕ
+invitation_line i =
+    line_of (codes "invitation" ∷ spell_hex i.id ∷ spell_kind i.kind ∷ spell_decimal i.uses ∷ codes "used" ∷ spell_decimal (count_ones i.used)
+    ∷ codes "expires" ∷ spell_decimal i.expiry ∷ [])
+
+-- the open invitations, by id
+abbrev pub invitation_lines : State → List ℕ
+invitation_lines s = flat_map invitation_line (filter (λ i. not i.closed) s.invitations)
 
 -- the current keys of the live scopes but devices, in the order of scopes
 abbrev pub shown_keys : State → List KeyId
@@ -53,7 +65,7 @@ abbrev pub debt_lines : State → List ℕ
 debt_lines s = flat_map debt_line (debts (key_table s))
 
 abbrev pub state_lines : State → List ℕ
-state_lines s = member_lines s ++ device_lines s ++ role_lines s ++ current_key_lines s ++ debt_lines s
+state_lines s = member_lines s ++ device_lines s ++ role_lines s ++ invitation_lines s ++ current_key_lines s ++ debt_lines s
 
 abbrev pub show_text : Name → List Link → List ℕ
 show_text t links =

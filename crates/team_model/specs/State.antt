@@ -91,3 +91,11 @@ module _ (s : State) where
   -- whether another device than d is listed for u
   abbrev pub has_other_device : Name → Name → Bool
   has_other_device u d = list_any (λ x. x.listed && (same_name x.user u && not (same_name x.id d))) s.devices
+
+  -- the row of an invitation that was ever made
+  abbrev pub invitation_row : Name → Option Invitation
+  invitation_row i = find (λ v. same_name v.id i) s.invitations
+
+  -- how many invitations are open
+  abbrev pub open_invitations : ℕ
+  open_invitations = length (filter (λ v. not v.closed) s.invitations)

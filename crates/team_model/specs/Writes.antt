@@ -1,14 +1,15 @@
 -- What a write to the tables of a state changes.
-use Rattle.std.specs.Prelude.{ℕ, true, false, if◌then◌else◌, List, [], ◌∷◌, ◌++◌, Some, map}
+use Rattle.std.specs.Prelude.{ℕ, ◌^◌, true, false, if◌then◌else◌, List, [], ◌∷◌, ◌++◌, Some, bit_or, map}
 use Rattle.std.specs.Option.{option_map_or}
 use Rattle.team_sets.specs.Names.{Name, same_name}
 use Rattle.tg_text.specs.declared.keys.KeyId.{KeyId}
 use Rattle.tg_text.specs.declared.keys.BoxLine.{BoxLine}
+use Rattle.acts.specs.declared.entry.InviteKind.{InviteKind}
 use Rattle.team_model.specs.declared.terms.Member.{Member}
 use Rattle.team_model.specs.declared.terms.Device.{Device}
 use Rattle.team_model.specs.declared.terms.Invitation.{Invitation}
 use Rattle.team_model.specs.KeyTables.{put_current}
-use Rattle.team_model.specs.State.{State, device_row, drop_row, put_name, put_row}
+use Rattle.team_model.specs.State.{State, device_row, drop_row, invitation_row, put_name, put_row}
 
 -- a device's row without its listing, if it is the user's
 abbrev pub unlist_of : Name → Device → Device
@@ -21,6 +22,18 @@ unlisted d = record d { listed = false }
 -- the row of a device that is listed for a user
 abbrev pub listed_device : Name → List ℕ → Name → Device
 listed_device id seal user = record { id = id; seal = seal; user = user; listed = true }
+
+-- the row of an invitation that a user opens: none of its leaves is used
+abbrev pub opened_invitation : Name → InviteKind → Name → ℕ → ℕ → Invitation
+opened_invitation id kind user uses expiry = record { id = id; kind = kind; user = user; uses = uses; used = 0; expiry = expiry; closed = false }
+
+-- an invitation's row, closed
+abbrev pub closed : Invitation → Invitation
+closed i = record i { closed = true }
+
+-- an invitation's row with a leaf more among the used ones
+abbrev pub used_at : ℕ → Invitation → Invitation
+used_at leaf i = record i { used = bit_or i.used (2 ^ leaf) }
 
 module _ (s : State) where
   abbrev pub with_title : List ℕ → State
@@ -61,6 +74,14 @@ module _ (s : State) where
   -- a device that was ever listed is unlisted
   abbrev pub without_device : Name → State
   without_device id = option_map_or (λ d. with_device (unlisted d)) (device_row s id) s
+
+  -- an invitation that was ever made is closed
+  abbrev pub with_closed : Name → State
+  with_closed id = option_map_or (λ i. with_invitation (closed i)) (invitation_row s id) s
+
+  -- a leaf of an invitation that was ever made is used
+  abbrev pub with_leaf_used : Name → ℕ → State
+  with_leaf_used id leaf = option_map_or (λ i. with_invitation (used_at leaf i)) (invitation_row s id) s
 
 -- a new member without roles, with a first device
 abbrev pub with_newcomer : State → Name → Name → List ℕ → State

@@ -1,4 +1,4 @@
-ghost use Rattle.team_model.specs.ActRows.{DeviceRow, FoundingRow, GiftRow, ListedRow, NewcomerRow, RemovalRow, RoleRow, RotationRow, TitleRow};
+ghost use Rattle.team_model.specs.ActRows.{AdmissionRow, AdmittedRow, DeviceAdmissionRow, DeviceRow, FoundingRow, GiftRow, InvitationRow, ListedRow, ManyInvitationsRow, NewcomerRow, OpenedOnceRow, RemovalRow, RevocationRow, RoleRow, RotationRow, TitleRow};
 ghost use Rattle.team_model.specs.CountingLaws.{CountingAreByListed, CountingIsRight, RankIsDefined, StandersAreApart, TeamRulesBringIn};
 ghost use Rattle.team_model.specs.DebtLaws.{KeylessOweEachKey};
 ghost use Rattle.team_model.specs.Examples.{ArrivalRow, LateRow, ReefRow, RingRow, ShownRow, TwiceRow, TwoRow, WaitingRow};
@@ -113,6 +113,23 @@ pub fn worked_devices()
     ensures devices { DeviceRow }
     ensures rotations { RotationRow }
     ensures titles { TitleRow }
+{}
+
+/// The rows on invitations: opened and revoked.
+#[tactic(auto, unfolding(crate::specs::KeyLines::lined, crate::specs::KeyLines::with_lines))]
+pub fn worked_invitations()
+    ensures invitations { InvitationRow }
+    ensures once { OpenedOnceRow }
+    ensures many { ManyInvitationsRow }
+    ensures revocations { RevocationRow }
+{}
+
+/// The rows on admissions, by invitations of members and of devices.
+#[tactic(auto, unfolding(crate::specs::KeyLines::lined, crate::specs::KeyLines::with_lines, tg_text::specs::Spelling::number_at))]
+pub fn worked_admissions()
+    ensures refusals { AdmissionRow }
+    ensures effect { AdmittedRow }
+    ensures devices { DeviceAdmissionRow }
 {}
 
 /// Two admins who remove each other, three who do so in a ring, and a removal that comes late.

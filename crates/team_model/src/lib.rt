@@ -15,10 +15,12 @@ pub use key_line_laws::{worked_box_lines, worked_new_lines, worked_removal_lines
 pub use laws::{
     counting_is_right, keyless_owe_each_key, lawful_stays, meaning_is_of_order, meaning_is_of_set,
     none_is_struck, rank_is_defined, standers_are_apart, team_is_fold, team_of_past,
-    text_is_of_set, waiting_have_no_effect, worked_arrival, worked_devices, worked_members,
-    worked_refusal, worked_removals, worked_roles, worked_show, worked_team,
+    text_is_of_set, waiting_have_no_effect, worked_admissions, worked_arrival, worked_devices,
+    worked_invitations, worked_members, worked_refusal, worked_removals, worked_roles, worked_show,
+    worked_team,
 };
 pub use limits::{
-    LAST_GENERATION, MOST_BOXES, MOST_DEVICES, MOST_DEVICES_EVER, MOST_MEMBERS, MOST_ROLES,
+    INVITATION_LEAVES, LAST_GENERATION, MOST_BOXES, MOST_DEVICES, MOST_DEVICES_EVER,
+    MOST_INVITATIONS, MOST_MEMBERS, MOST_ROLES,
 };
 pub use terms::{Device, Invitation, Link, Member, Reason, Verdict};

@@ -12,6 +12,12 @@ pub const MOST_DEVICES: usize = 8;
 /// How many roles are listed at most, `admin` among them.
 pub const MOST_ROLES: usize = 32;
 
+/// How many invitations are open at most, of both kinds together.
+pub const MOST_INVITATIONS: usize = 256;
+
+/// How many leaves an invitation has: as many as the tree of its key.
+pub const INVITATION_LEAVES: u32 = 32;
+
 /// How many boxes are held at most.
 pub const MOST_BOXES: usize = 65_536;
 

@@ -17,7 +17,7 @@ use Rattle.tg_text.specs.declared.keys.KeyId.{KeyId}
 use Rattle.tg_text.specs.declared.keys.Scope.{Scope}
 use Rattle.tg_text.specs.declared.keys.Scope.TheVariants.{Team, Role, User, Device as DeviceScope}
 use Rattle.acts.specs.declared.entry.Act.{Act}
-use Rattle.acts.specs.declared.entry.Act.TheVariants.{Found, AddMember, RemoveMember, GiveRole, TakeRole, AddDevice, RemoveDevice}
+use Rattle.acts.specs.declared.entry.Act.TheVariants.{Found, AddMember, RemoveMember, GiveRole, TakeRole, AddDevice, RemoveDevice, Revoke, AdmitMember, AdmitDevice}
 use Rattle.acts.specs.declared.entry.Entry.{Entry}
 use Rattle.key_reach.specs.Keys.{is_device, is_live, is_tainted}
 use Rattle.key_reach.specs.Laws.{may_lead}
@@ -26,10 +26,10 @@ use Rattle.key_reach.proofs.Numbered.{in-map}
 use Rattle.key_laws.specs.TaintLaws.{IsLeakedBy, UsersGoToDevices}
 use Rattle.key_laws.proofs.Reached.{reaches_taint}
 use Rattle.key_laws.proofs.Tainting.{user_leaked}
-use Rattle.team_model.specs.ActTable.{effect, refusal, row_of}
+use Rattle.team_model.specs.ActTable.{effect, refusal, row_of, with_proof_used}
 use Rattle.team_model.specs.KeyTables.{is_allowed, key_table}
 use Rattle.team_model.specs.State.{State, device_row, drop_row, is_empty_state, lists_device, lists_user, put_name, put_row, roles_of}
-use Rattle.team_model.specs.Writes.{listed_device, unlist_of, unlisted, with_device, with_newcomer, with_roles, without_device, without_member}
+use Rattle.team_model.specs.Writes.{listed_device, unlist_of, unlisted, with_closed, with_device, with_newcomer, with_roles, without_device, without_member}
 use Rattle.team_model.specs.declared.terms.Device.{Device}
 use Rattle.team_model.specs.declared.terms.Member.{Member}
 use Rattle.team_model.proofs.Brought.{AllUnmet, from_not, in_map, members_without_device}
@@ -37,6 +37,8 @@ use Rattle.team_state.specs.ArrowLaws.{allowed_arrows}
 use Rattle.team_state.specs.Kept.{IsOrdered, row_lists}
 use Rattle.team_state.proofs.Staying.{by_cases, drop_keeps, none_met, one_row, put_has, put_keeps}
 use Rattle.team_reducer.specs.Sound.{IsSound, goes_down, is_of}
+use Rattle.team_model.proofs.Invited.{InvitesOnly, closed-only, proof_used-only}
+use Rattle.team_reducer.proofs.Invites.{still_lists, still_lists_device, still_new}
 use Rattle.team_reducer.proofs.Untouched.{untouched}
 use Rattle.team_plans.specs.Plans.{effected}
 use Rattle.team_plans.specs.Touching.{touched}
@@ -88,6 +90,9 @@ module _ (s : State) (e : Entry) (sound : IsSound s) where
   module _ (u d : Name) (device : lists_device s u d ≡ true) (user : lists_user s u ≡ true) where
     still : (t : State) → lists_device t u d ≡ true → lists_user t u ≡ true → is_allowed t (DeviceScope d) (User u) ≡ false → ⊥
     still t dev use_ gone = false≢true (sym gone ∙ and_from (lists_device t u d) (lists_user t u) dev use_)
+
+    left : (t : State) → InvitesOnly s t → is_allowed t (DeviceScope d) (User u) ≡ false → ⊥
+    left t only gone = still t (still_lists_device s t only u d device) (still_lists s t only u user) gone
 
     the_row : (x : Device) × IsIn x s.devices × (row_lists u d x ≡ true)
     the_row = any_of (row_lists u d) s.devices device
@@ -153,6 +158,19 @@ module _ (s : State) (e : Entry) (sound : IsSound s) where
         absurd (still (with_device s (listed_device (sha256 key) seal e.user)) (new_row_keeps u d (listed_device (sha256 key) seal e.user) s.devices row.1.0 device) user gone)
     lost (RemoveDevice v i) row gone =
         by_cases (same_name v u) (λ is. ap (λ n. Some n) (same_name-is v u is)) (λ other. absurd (unlisted_one v i other (from_not (lists_device s v i) row.1.0) gone))
+    lost (Revoke kind i) row gone = absurd (left (with_closed s i) (closed-only s i) gone)
+    lost (AdmitMember v key seal by proof) row gone =
+        let t = with_proof_used s (sha256 by) proof in
+        let only = proof_used-only s (sha256 by) proof in
+        absurd (still (with_newcomer t v (sha256 key) seal)
+        (new_row_keeps u d (listed_device (sha256 key) seal v) t.devices (still_new s (sha256 by) proof (sha256 key) row.1.1.1.1.0) (still_lists_device s t only u d device))
+        (user_row_keeps (record { user = v; roles = [] }) t.members u (still_lists s t only u user)) gone)
+    lost (AdmitDevice key seal by proof) row gone =
+        let t = with_proof_used s (sha256 by) proof in
+        let only = proof_used-only s (sha256 by) proof in
+        absurd (still (with_device t (listed_device (sha256 key) seal e.user))
+        (new_row_keeps u d (listed_device (sha256 key) seal e.user) t.devices (still_new s (sha256 by) proof (sha256 key) row.1.1.1.1.1.0) (still_lists_device s t only u d device))
+        (still_lists s t only u user) gone)
     lost _ row gone = absurd (still s device user gone)
 
   -- so with any arrow to the user

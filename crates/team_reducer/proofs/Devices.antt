@@ -1,5 +1,5 @@
 -- A device's row stays that of its user, and so each box goes down as it did.
-use Rattle.std.proofs.Common.{◌≡◌, Bool, true, false, ◌&&◌, cond, map, Option, Some, None, refl, sym, subst}
+use Rattle.std.proofs.Common.{◌≡◌, ℕ, Bool, true, false, ◌&&◌, cond, List, map, Option, Some, None, refl, sym, subst}
 use Rattle.std.specs.List.{list_any}
 use Rattle.std.specs.Option.{option_map_or}
 use Rattle.std.proofs.lemmas.Bool.{false≢true, and_from, and_parts}
@@ -10,23 +10,25 @@ use Rattle.team_sets.proofs.Agree.{any_in}
 use Rattle.team_sets.proofs.Decisions.{find_of}
 use Rattle.team_sets.proofs.Pasts.{any_of, same_name-is}
 use Rattle.acts.specs.declared.entry.Act.{Act}
-use Rattle.acts.specs.declared.entry.Act.TheVariants.{Found, AddMember, RemoveMember, AddDevice, RemoveDevice}
+use Rattle.acts.specs.declared.entry.Act.TheVariants.{Found, AddMember, RemoveMember, AddDevice, RemoveDevice, Revoke, AdmitMember, AdmitDevice}
 use Rattle.acts.specs.declared.entry.Entry.{Entry}
 use Rattle.tg_text.specs.declared.keys.BoxLine.{BoxLine}
 use Rattle.tg_text.specs.declared.keys.Scope.{Scope}
 use Rattle.tg_text.specs.declared.keys.Scope.TheVariants.{Team, Role, User, Device as DeviceScope}
 use Rattle.key_reach.specs.Keys.{is_device}
 use Rattle.key_reach.specs.Laws.{may_lead}
-use Rattle.team_model.specs.ActTable.{effect, is_found, row_of}
+use Rattle.team_model.specs.ActTable.{effect, is_found, row_of, with_proof_used}
 use Rattle.team_model.specs.KeyTables.{is_allowed}
 use Rattle.team_model.specs.State.{State, device_row, lists_device, lists_user, was_listed}
-use Rattle.team_model.specs.Writes.{listed_device, unlist_of, unlisted, with_device, without_device, without_member}
+use Rattle.team_model.specs.Writes.{listed_device, unlist_of, unlisted, with_closed, with_device, without_device, without_member}
 use Rattle.team_model.specs.declared.terms.Device.{Device}
 use Rattle.team_model.proofs.Brought.{AllUnmet, in_map}
+use Rattle.team_model.proofs.Invited.{closed-only, proof_used-only, same_devices}
 use Rattle.team_state.specs.ArrowLaws.{allowed_arrows}
 use Rattle.team_state.specs.Kept.{IsOrdered}
 use Rattle.team_state.proofs.Staying.{by_cases, none_met, one_row, put_has, put_keeps}
 use Rattle.team_reducer.specs.Sound.{goes_down, is_of}
+use Rattle.team_reducer.proofs.Invites.{still_new}
 
 -- whether a row is that of a device and its user
 abbrev pub is_row : Name → Name → Device → Bool
@@ -67,12 +69,26 @@ module _ (s : State) where
       kept x h true = h
       kept x h false = h
 
+-- the same devices
+same-stay : (s t : State) → t.devices ≡ s.devices → DevicesStay s t
+same-stay s t same d u h = subst (λ (ds : List Device). list_any (is_row d u) ds ≡ true) (sym same) h
+
+-- a leaf is used, and then a new device comes
+admitted-stay : (s : State) (id : Name) (proof : List ℕ) (row : Device) → was_listed s row.id ≡ false → DevicesStay s (with_device (with_proof_used s id proof) row)
+admitted-stay s id proof row new d u h =
+    let t = with_proof_used s id proof in
+    new-stays t row (still_new s id proof row.id new) d u (same-stay s t (same_devices s t (proof_used-only s id proof)) d u h)
+
+module _ (s : State) where
   pub effect-stays : (e : Entry) → IsOrdered s → (a : Act) → is_found a ≡ false → AllUnmet (row_of sha256 s e a) → DevicesStay s (effect s e a)
   effect-stays e up (Found seal title) other u = absurd (false≢true (sym other))
-  effect-stays e up (AddMember user key seal) other u = new-stays (listed_device (sha256 key) seal user) u.1.1.0
-  effect-stays e up (RemoveMember user) other u = removed-stays user
-  effect-stays e up (AddDevice key seal) other u = new-stays (listed_device (sha256 key) seal e.user) u.1.0
-  effect-stays e up (RemoveDevice user id) other u = unlisted-stays up id
+  effect-stays e up (AddMember user key seal) other u = new-stays s (listed_device (sha256 key) seal user) u.1.1.0
+  effect-stays e up (RemoveMember user) other u = removed-stays s user
+  effect-stays e up (AddDevice key seal) other u = new-stays s (listed_device (sha256 key) seal e.user) u.1.0
+  effect-stays e up (RemoveDevice user id) other u = unlisted-stays s up id
+  effect-stays e up (Revoke kind id) other u = same-stay s (with_closed s id) (same_devices s (with_closed s id) (closed-only s id))
+  effect-stays e up (AdmitMember user key seal by proof) other u = admitted-stay s (sha256 by) proof (listed_device (sha256 key) seal user) u.1.1.1.1.0
+  effect-stays e up (AdmitDevice key seal by proof) other u = admitted-stay s (sha256 by) proof (listed_device (sha256 key) seal e.user) u.1.1.1.1.1.0
   effect-stays e up _ other u = λ d v h. h
 
 is_of-stays : (s t : State) → DevicesStay s t → (a b : Scope) → is_of s a b ≡ true → is_of t a b ≡ true

@@ -48,7 +48,7 @@ pub record Firm (s : State) : Type 0 where
 abbrev user_of : Member → Name
 user_of m = m.user
 
-kept_of : (s : State) → IsOrdered s → IsKept s (all_keys s) (live_scopes s)
+pub kept_of : (s : State) → IsOrdered s → IsKept s (all_keys s) (live_scopes s)
 kept_of s up = record { ordered = up; keys_are = refl; scopes_are = refl }
 
 -- an admin, and a listed device of a listed user

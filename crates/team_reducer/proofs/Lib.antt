@@ -1,6 +1,7 @@
 pub mod Devices
 pub mod Firm
 pub mod Fitting
+pub mod Invites
 pub mod Pasts
 pub mod Printed
 pub mod Sounding

@@ -14,14 +14,15 @@ use Rattle.key_reach.specs.Keys.{is_device}
 use Rattle.team_sets.proofs.Agree.{any_in}
 use Rattle.team_sets.proofs.Pasts.{any_of}
 use Rattle.acts.specs.declared.entry.Act.{Act}
-use Rattle.acts.specs.declared.entry.Act.TheVariants.{Found, AddMember, RemoveMember, AddRole, RemoveRole, GiveRole, TakeRole, AddDevice, RemoveDevice, Title}
+use Rattle.acts.specs.declared.entry.Act.TheVariants.{Found, AddMember, RemoveMember, AddRole, RemoveRole, GiveRole, TakeRole, AddDevice, RemoveDevice, InviteMember, InviteDevice, Revoke, AdmitMember, AdmitDevice, Title}
 use Rattle.acts.specs.declared.entry.Entry.{Entry}
-use Rattle.team_model.specs.ActTable.{after, effect, first_reason, is_found, refusal, row_of}
+use Rattle.acts.specs.declared.entry.InviteKind.TheVariants.{Member as of_members, Device as of_devices}
+use Rattle.team_model.specs.ActTable.{after, effect, first_reason, is_found, refusal, row_of, with_proof_used}
 use Rattle.team_model.specs.CountingLaws.{IsByListed}
 use Rattle.team_model.specs.Limits.{most_boxes}
 use Rattle.team_model.specs.State.{State, admin, empty_state, has_other_device, is_empty_state, is_listed, lists_device, lists_user}
 use Rattle.team_model.specs.Strikes.{brings_user}
-use Rattle.team_model.specs.Writes.{listed_device}
+use Rattle.team_model.specs.Writes.{listed_device, opened_invitation}
 use Rattle.team_model.specs.declared.terms.Member.{Member}
 use Rattle.team_model.specs.declared.terms.Reason.{Reason}
 use Rattle.team_model.specs.declared.terms.Reason.TheVariants.{NotListed}
@@ -44,6 +45,7 @@ use Rattle.team_reducer.proofs.Taken.{all-boxes, few-boxes, next-taken, others-t
 use Rattle.team_reducer.proofs.Untouched.{untouched}
 use Rattle.team_reducer.specs.Sound.{IsManned, IsSound, goes_down, has_device, is_past, made_by}
 use Rattle.team_reducer.proofs.Firm.{Firm, Rises, firm-device, firm-given, firm-newcomer, firm-role, firm-taken, firm-title, firm-without_device, firm-without_member, firm-without_role}
+use Rattle.team_reducer.proofs.Invites.{firm-closed, firm-invitation, firm-proof_used, still_absent, still_new}
 
 -- the three laws
 pub refused_stays : (s : State) (e : Entry) (reason : Reason) → refusal s e ≡ Some reason → after s e ≡ s
@@ -74,6 +76,15 @@ module _ (s : State) (e : Entry) (firm : Firm s) where
   firm-effect (AddDevice key seal) other u = firm-device s firm (listed_device (sha256 key) seal e.user) u.1.0
   firm-effect (RemoveDevice user id) other u =
       firm-without_device s firm user id (from_not (lists_device s user id) u.1.0) (from_not (has_other_device s user id) u.1.1.0)
+  firm-effect (InviteMember key uses expiry) other u = firm-invitation s firm (opened_invitation (sha256 key) of_members e.user uses expiry)
+  firm-effect (InviteDevice key uses expiry) other u = firm-invitation s firm (opened_invitation (sha256 key) of_devices e.user uses expiry)
+  firm-effect (Revoke kind id) other u = firm-closed s firm id
+  firm-effect (AdmitMember user key seal by proof) other u =
+      firm-newcomer (with_proof_used s (sha256 by) proof) (firm-proof_used s firm (sha256 by) proof) user (sha256 key) seal
+      (still_absent s (sha256 by) proof user (or_parts (lists_user s user) (is_listed s (sha256 key)) u.1.1.1.0).0) (still_new s (sha256 by) proof (sha256 key) u.1.1.1.1.0)
+  firm-effect (AdmitDevice key seal by proof) other u =
+      firm-device (with_proof_used s (sha256 by) proof) (firm-proof_used s firm (sha256 by) proof) (listed_device (sha256 key) seal e.user)
+      (still_new s (sha256 by) proof (sha256 key) u.1.1.1.1.1.0)
   firm-effect (Title title) other u = firm-title s firm title
   firm-effect _ other u = firm
 

@@ -2,15 +2,17 @@
 //! before.
 ghost use Rattle.std.specs.Prelude.{◌≡◌, OnErr, OnOk};
 ghost use Rattle.acts.specs.declared.entry.Act.TheVariants.{Found};
-ghost use Rattle.team_model.specs.ActTable.{effect};
+ghost use Rattle.sha2.specs.Sha256.{sha256};
+ghost use Rattle.team_model.specs.ActTable.{effect, with_proof_used};
 ghost use Rattle.team_model.specs.State.{drop_row, put_name, roles_of};
 ghost use Rattle.team_model.specs.Writes as writes;
 
+use crate::inviting::{invitation_of, use_proof};
 use crate::roles::{roles_with, roles_without};
-use acts::{Act, Entry, device_of};
+use acts::{Act, Entry, InviteKind, device_of};
 use std::alloc::Global;
-use team_state::{TeamState, listed_device};
-use tg_text::{Items, Memory, RoleName, Title, UserName};
+use team_state::{Device, TeamState, listed_device, opened_invitation};
+use tg_text::{Items, Memory, PublicKey, RoleName, Title, UserName};
 
 /// What an entry's act does by itself.
 pub(crate) fn act(alloc: Global, state: &mut TeamState, entry: &Entry) -> Result<(), Memory>
@@ -30,15 +32,83 @@ pub(crate) fn act(alloc: Global, state: &mut TeamState, entry: &Entry) -> Result
         }
         Act::RemoveDevice { hex, .. } => state.unlist_device(hex),
         Act::Title { title } => state.put_title(*title),
-        Act::InviteMember { .. }
-        | Act::InviteDevice { .. }
-        | Act::Revoke { .. }
-        | Act::AdmitMember { .. }
-        | Act::AdmitDevice { .. }
-        | Act::Rotate { .. }
-        | Act::Seal
-        | Act::Join => Ok(()),
+        Act::InviteMember { key, uses, expiry } => {
+            invite(state, entry, InviteKind::Member, key, *uses, *expiry)
+        }
+        Act::InviteDevice { key, uses, expiry } => {
+            invite(state, entry, InviteKind::Device, key, *uses, *expiry)
+        }
+        Act::Revoke { hex, .. } => state.close_invitation(hex),
+        Act::AdmitMember {
+            user,
+            key,
+            seal,
+            by,
+            proof,
+        } => admit_member(state, user, key, *seal, by, proof.as_slice()),
+        Act::AdmitDevice {
+            key,
+            seal,
+            by,
+            proof,
+        } => {
+            let device = listed_device(device_of(key), *seal, entry.user);
+            admit_device(state, device, by, proof.as_slice())
+        }
+        Act::Rotate { .. } | Act::Seal | Act::Join => Ok(()),
     }
+}
+
+// Opens an invitation by an entry's user.
+fn invite(
+    state: &mut TeamState,
+    entry: &Entry,
+    kind: InviteKind,
+    key: &PublicKey,
+    uses: u32,
+    expiry: u64,
+) -> Result<(), Memory>
+    ensures ok { OnOk result (state.new ≡ writes.with_invitation state.old (writes.opened_invitation (sha256 key.now) kind entry.now.user uses expiry)) }
+    ensures err { OnErr result (state.new ≡ state.old) }
+{
+    let id = invitation_of(key);
+    state.put_invitation(opened_invitation(id, kind, entry.user, uses, expiry))
+}
+
+// A member comes by a leaf of an invitation, which is used then.
+fn admit_member(
+    state: &mut TeamState,
+    user: &UserName,
+    key: &PublicKey,
+    seal: [u8; 32],
+    by: &PublicKey,
+    proof: &[u8],
+) -> Result<(), Memory>
+    ensures ok { OnOk result (state.new ≡ writes.with_newcomer (with_proof_used state.old (sha256 by.now) proof.now) user.now (sha256 key.now) seal) }
+    ensures err { OnErr result (state.new ≡ state.old) }
+{
+    let mut next = state.copy()?;
+    use_proof(&mut next, by, proof)?;
+    next.put_newcomer(*user, device_of(key), seal)?;
+    *state = next;
+    Ok(())
+}
+
+// A device comes by a leaf of an invitation, which is used then.
+fn admit_device(
+    state: &mut TeamState,
+    device: Device,
+    by: &PublicKey,
+    proof: &[u8],
+) -> Result<(), Memory>
+    ensures ok { OnOk result (state.new ≡ writes.with_device (with_proof_used state.old (sha256 by.now) proof.now) device) }
+    ensures err { OnErr result (state.new ≡ state.old) }
+{
+    let mut next = state.copy()?;
+    use_proof(&mut next, by, proof)?;
+    next.put_device(device)?;
+    *state = next;
+    Ok(())
 }
 
 // Founds the team: the author is a member and an admin, with one device. `seal` is the sealing public of that.

@@ -8,6 +8,7 @@
 mod applying;
 mod boxes;
 mod effects;
+mod inviting;
 mod known;
 mod laws;
 mod lining;

@@ -4,6 +4,9 @@ ghost use Rattle.sha2.specs.Sha256.{sha256};
 ghost use Rattle.team_model.specs.ActTable.{first_reason, is_found, refusal, row_of};
 ghost use Rattle.team_model.specs.State.{lists_device, lists_user};
 
+use crate::inviting::{
+    ask_admit_device, ask_admit_member, ask_invite, ask_invite_member, ask_revoke,
+};
 use crate::rows::{
     ask_add_device, ask_add_member, ask_add_role, ask_found, ask_give_role, ask_remove_device,
     ask_remove_member, ask_remove_role, ask_rotate, ask_take_role, ask_title, refuse_if,
@@ -53,12 +56,19 @@ fn ask_row(state: &TeamState, entry: &Entry) -> Result<(), Reason>
         Act::RemoveDevice { user, hex } => ask_remove_device(state, entry, user, hex),
         Act::Rotate { scope } => ask_rotate(state, entry, scope),
         Act::Title { .. } => ask_title(state, entry),
-        Act::InviteMember { .. }
-        | Act::InviteDevice { .. }
-        | Act::Revoke { .. }
-        | Act::AdmitMember { .. }
-        | Act::AdmitDevice { .. }
-        | Act::Seal
-        | Act::Join => Ok(()),
+        Act::InviteMember { key, .. } => ask_invite_member(state, entry, key),
+        Act::InviteDevice { key, .. } => ask_invite(state, key),
+        Act::Revoke { kind, hex } => ask_revoke(state, entry, *kind, hex),
+        Act::AdmitMember {
+            user,
+            key,
+            by,
+            proof,
+            ..
+        } => ask_admit_member(state, entry, user, key, by, proof.as_slice()),
+        Act::AdmitDevice { key, by, proof, .. } => {
+            ask_admit_device(state, entry, key, by, proof.as_slice())
+        }
+        Act::Seal | Act::Join => Ok(()),
     }
 }

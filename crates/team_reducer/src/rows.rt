@@ -23,13 +23,13 @@ pub(crate) fn refuse_if(holds: bool, reason: Reason) -> Result<(), Reason>
     if holds { Err(reason) } else { Ok(()) }
 }
 
-fn lacks_admin(state: &TeamState, entry: &Entry) -> bool
+pub(crate) fn lacks_admin(state: &TeamState, entry: &Entry) -> bool
     ensures { result ≡ lacks_admin state.now entry.now }
 {
     !state.is_admin(&entry.user)
 }
 
-fn is_another(user: &UserName, entry: &Entry) -> bool
+pub(crate) fn is_another(user: &UserName, entry: &Entry) -> bool
     ensures { result ≡ is_another user.now entry.now }
 {
     *user != entry.user
@@ -66,8 +66,12 @@ pub(crate) fn ask_add_member(
     ask_newcomer(state, user, &device_of(key))
 }
 
-// Why a user may not come anew, with a first device.
-fn ask_newcomer(state: &TeamState, user: &UserName, device: &DeviceId) -> Result<(), Reason>
+/// Why a user may not come anew, with a first device.
+pub(crate) fn ask_newcomer(
+    state: &TeamState,
+    user: &UserName,
+    device: &DeviceId,
+) -> Result<(), Reason>
     ensures { result_err result ≡ first_reason (newcomer_conditions state.now user.now device.now) }
 {
     let is_present = state.lists_user(user) || state.is_listed(device);
@@ -150,8 +154,12 @@ pub(crate) fn ask_add_device(
     ask_device(state, &entry.user, &device_of(key))
 }
 
-// Why a further device may not be listed for a user.
-fn ask_device(state: &TeamState, user: &UserName, device: &DeviceId) -> Result<(), Reason>
+/// Why a further device may not be listed for a user.
+pub(crate) fn ask_device(
+    state: &TeamState,
+    user: &UserName,
+    device: &DeviceId,
+) -> Result<(), Reason>
     ensures { result_err result ≡ first_reason (device_conditions state.now user.now device.now) }
 {
     refuse_if(state.is_listed(device), Reason::Present)?;

@@ -26,3 +26,9 @@ member_written m start a b c end user roles e f same g alike h =
 pub unreached_written : (start a b c d e end key hex : List ℕ) → a ≡ start ++ codes "debt " → b ≡ a ++ codes "unreached " → c ≡ b ++ key → d ≡ c ++ codes " " → e ≡ d ++ hex
     → end ≡ e ++ 10 ∷ [] → end ≡ start ++ line_of (codes "debt" ∷ codes "unreached" ∷ key ∷ hex ∷ [])
 unreached_written start a b c d e end key hex p q r s t h = h ∙ rw (t, s, r, q, p) (simp append_assoc)
+
+-- the line of an invitation
+pub invitation_written : (start a b c d e f g h i j end id kind uses used expiry : List ℕ) → a ≡ start ++ codes "invitation " → b ≡ a ++ id → c ≡ b ++ codes " " → d ≡ c ++ kind → e ≡ d ++ codes " "
+    → f ≡ e ++ uses → g ≡ f ++ codes " used " → h ≡ g ++ used → i ≡ h ++ codes " expires " → j ≡ i ++ expiry → end ≡ j ++ 10 ∷ []
+    → end ≡ start ++ line_of (codes "invitation" ∷ id ∷ kind ∷ uses ∷ codes "used" ∷ used ∷ codes "expires" ∷ expiry ∷ [])
+invitation_written start a b c d e f g h i j end id kind uses used expiry p q r s t u v w x y z = z ∙ rw (y, x, w, v, u, t, s, r, q, p) (simp append_assoc)

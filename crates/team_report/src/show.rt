@@ -8,7 +8,7 @@ ghost use Rattle.team_report.specs.Shown.{shown};
 use crate::by_user::write_devices;
 use crate::current_keys::write_current_keys;
 use crate::debts::write_debts;
-use crate::tables::{write_members, write_roles};
+use crate::tables::{write_invitations, write_members, write_roles};
 use replica::{Replica, TeamState, Verdict};
 use std::alloc::Global;
 use tg_text::{Bytes, LinkName, Memory, Title, write_decimal, write_hex};
@@ -117,6 +117,7 @@ fn write_state(alloc: Global, out: &mut Bytes, state: &TeamState) -> Result<(), 
     write_members(out, state.members())?;
     write_devices(alloc, out, state.devices())?;
     write_roles(out, state.roles())?;
+    write_invitations(alloc, out, state.invitations())?;
     write_current_keys(alloc, out, state)?;
     write_debts(alloc, out, state)
 }

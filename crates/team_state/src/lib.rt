@@ -5,6 +5,7 @@
 //! tables say of keys is shown through `KeyTable`.
 #![tactic(auto)]
 
+mod inviting;
 mod keys;
 mod kinds;
 mod looking;
@@ -13,6 +14,7 @@ mod state;
 mod table;
 mod writing;
 
+pub use inviting::opened_invitation;
 pub use state::TeamState;
 pub use team_model::{Device, Invitation, Member};
 pub use writing::listed_device;

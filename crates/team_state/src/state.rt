@@ -3,11 +3,10 @@ ghost use Rattle.key_reach.specs.Keys.{is_device, same_scope};
 ghost use Rattle.team_model.specs.KeyTables.{all_keys, current_key, key_table};
 ghost use Rattle.team_sets.specs.Members.{IsIn};
 ghost use Rattle.team_sets.specs.Names.{has_name};
-ghost use Rattle.team_model.specs.State.{device_row, devices_ever, devices_listed, empty_state, has_other_device, has_role, is_admin, is_empty_state, is_given, is_listed, is_only_admin, lists_device, lists_user, member_row, roles_of, was_listed};
+ghost use Rattle.team_model.specs.State.{device_row, devices_ever, devices_listed, empty_state, has_other_device, has_role, invitation_row, is_admin, is_empty_state, is_given, is_listed, is_only_admin, lists_device, lists_user, member_row, open_invitations, roles_of, was_listed};
 ghost use Rattle.team_model.specs.Writes as after;
 ghost use Rattle.team_sets.specs.SortedLaws.{IsAscending, by_names};
 ghost use Rattle.team_state.specs.AscentLaws.{TablesAscend};
-ghost use Rattle.team_state.specs.Questions.{invitation_row, open_invitations};
 
 use crate::looking::{
     count_devices, count_listed, count_open, has_device, has_member, has_other_admin,

@@ -38,7 +38,7 @@ returns-in_err-permits-clause-plan c =
     (planned_refused held s key act c.args.time reason room (here ∙ sym c.permits.ensures ∙ refused)) c.from_residual-in_err-permits.ensures.1
 
 pub returns-clause-draft : goal.returns-clause-draft
-returns-clause-draft c = λ read.
+returns-clause-draft c =
     let held : Held = c.args.replica.now in
     let s : KeyState = c.args.author.now in
     let key = c.args.key.now in
@@ -48,7 +48,7 @@ returns-clause-draft c = λ read.
     let same : c.in_ok-parents.parents ≡ parents_of held.links = search rules in
     let names : AllByRecursion IsHash (parents_of held.links) = subst (λ (ns : List Name). AllByRecursion IsHash ns) same c.in_ok-parents.ensures.names in
     subst IsDraft is.draft
-    (planned_draft held s key act c.args.time (subst (λ (h : Held). IsHeld h.team h.links) c.graph.ensures c.is_held.ensures) names c.requires.author c.requires.key c.requires.act c.requires.short c.ranges.time.fits is.permitted read)
+    (planned_draft held s key act c.args.time (subst (λ (h : Held). IsHeld h.team h.links) c.graph.ensures c.is_held.ensures) names c.requires.author c.requires.key c.requires.act c.requires.short c.ranges.time.fits is.permitted)
 
 pub returns-clause-room : goal.returns-clause-room
 returns-clause-room c =

@@ -7,7 +7,7 @@ use Rattle.link_graph.specs.Held.{Held}
 use Rattle.team_author.specs.Planning.{planned}
 use Rattle.team_words.specs.Acts.{MayGive}
 use Rattle.key_commands.proofs.MadeBytes.{public_is}
-use Rattle.author_commands.proofs.PlainActs.{act_short, given_read, plain_signable}
+use Rattle.author_commands.proofs.PlainActs.{act_short, plain_signable}
 use Rattle.author_commands.proofs.plain.PlainPlanner.plan.Goals as goal
 
 pub plan_plain-requires-clause-key : goal.plan_plain-requires-clause-key
@@ -26,4 +26,4 @@ returns-in-Ok-clause-sound c =
     let may : MayGive act = subst (λ (a : Act). MayGive a) (sym c.as_act.ensures.act) c.as_act.ensures.may in
     let plan : planned held s c.args.key.now act time ≡ Ok d = rw c.in-Ok.is at c.plan_plain.ensures.plan in
     plain_signable held s act time d may (subst (λ (k : List ℕ). planned held s k act time ≡ Ok d) c.requires.key plan)
-    (rw c.in-Ok.is at c.plan_plain.ensures.draft (given_read act may.given)) (rw c.in-Ok.is at c.plan_plain.ensures.room)
+    (rw c.in-Ok.is at c.plan_plain.ensures.draft) (rw c.in-Ok.is at c.plan_plain.ensures.room)
