@@ -6,9 +6,11 @@ use Rattle.tg_text.specs.Reading.{Reads}
 use Rattle.tg_text.specs.Spelling.{has_space, spaced}
 use Rattle.tg_text.proofs.Lists.{tail_is}
 use Rattle.tg_text.proofs.Splits.{one_split}
-use Rattle.acts.specs.ActText.{IsActInRange, act_words, spell_act}
+use Rattle.acts.specs.ActText.{IsActInRange, act_words, spell_act, spell_kind}
 use Rattle.acts.specs.declared.entry.Act.{Act}
-use Rattle.acts.specs.declared.entry.Act.TheVariants.{AddMember, RemoveMember, AddRole, RemoveRole, GiveRole, TakeRole, AddDevice, RemoveDevice, Rotate, Seal, Title, Join}
+use Rattle.acts.specs.declared.entry.Act.TheVariants.{AddMember, RemoveMember, AddRole, RemoveRole, GiveRole, TakeRole, AddDevice, RemoveDevice, Revoke, Rotate, Seal, Title, Join}
+use Rattle.acts.specs.declared.entry.InviteKind.{InviteKind}
+use Rattle.acts.specs.declared.entry.InviteKind.TheVariants.{Member as of_members, Device as of_devices}
 use Rattle.acts.proofs.Pairs.{key_word, name_word}
 use Rattle.team_words.specs.Acts.{GivesAct, IsActOf, MayGive, are_whole, fits, is_given, lacks_space, word_after}
 
@@ -55,6 +57,10 @@ spaced_once (a ∷ c ∷ xs) (b ∷ d ∷ ys) n x y e =
     let one : a ≡ b = cut.0 in
     λ i. one i ∷ same i
 
+kind_whole : (kind : InviteKind) → has_space (spell_kind kind) ≡ false
+kind_whole of_members = refl
+kind_whole of_devices = refl
+
 -- no word of an act that may be given has a space, but for a title
 pub act_whole : (a : Act) → MayGive a → are_whole (act_words a) ≡ true
 act_whole (AddMember user key seal) may = rw (name_word user may.range.0, key_word key) refl
@@ -65,6 +71,7 @@ act_whole (GiveRole user role) may = rw (name_word user may.range.0) refl
 act_whole (TakeRole user role) may = rw (name_word user may.range.0) refl
 act_whole (RemoveDevice user id) may = rw (name_word user may.range.0) refl
 act_whole (AddDevice key seal) may = rw (key_word key) refl
+act_whole (Revoke kind id) may = rw (kind_whole kind) refl
 act_whole (Rotate scope) may = refl
 act_whole Seal may = refl
 act_whole (Title title) may = refl

@@ -3,10 +3,9 @@ use Rattle.std.specs.Prelude.{◌≡◌, ℕ, List, [], ◌∷◌, length, Bool,
 use Rattle.tg_text.specs.Spelling.{has_space}
 use Rattle.acts.specs.ActText.{IsActInRange, act_words}
 use Rattle.acts.specs.declared.entry.Act.{Act}
-use Rattle.acts.specs.declared.entry.Act.TheVariants.{AddMember, RemoveMember, AddRole, RemoveRole, GiveRole, TakeRole, AddDevice, RemoveDevice, Rotate, Seal, Title, Join}
+use Rattle.acts.specs.declared.entry.Act.TheVariants.{AddMember, RemoveMember, AddRole, RemoveRole, GiveRole, TakeRole, AddDevice, RemoveDevice, Revoke, Rotate, Seal, Title, Join}
 
--- Whether an act may be given by words. A team is founded by a command of its own, and others are made or admitted by theirs; those that no
--- link may have yet aren't given either.
+-- Whether an act may be given by words. A team is founded by a command of its own, and invitations are opened and used by theirs.
 abbrev pub is_given : Act → Bool
 is_given (AddMember user key seal) = true
 is_given (RemoveMember user) = true
@@ -16,6 +15,7 @@ is_given (GiveRole user role) = true
 is_given (TakeRole user role) = true
 is_given (AddDevice key seal) = true
 is_given (RemoveDevice user id) = true
+is_given (Revoke kind id) = true
 is_given (Rotate scope) = true
 is_given Seal = true
 is_given (Title title) = true

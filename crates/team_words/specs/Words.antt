@@ -6,7 +6,7 @@ use Rattle.std.specs.Cmp.Lexicographic.{pointwise}
 use Rattle.hex.specs.Hex.{decode_sized}
 use Rattle.hex.specs.declared.error.FromHexError.{FromHexError}
 use Rattle.team_words.specs.declared.command.Command.{Command}
-use Rattle.team_words.specs.declared.command.Command.TheVariants.{Heads, Keys, Log, Make, Merge, Newkey, Plain, Show, Why}
+use Rattle.team_words.specs.declared.command.Command.TheVariants.{Heads, Keys, Log, Make, Meet, Merge, Newkey, Plain, Show, Why}
 use Rattle.acts.specs.declared.entry.Act.{Act}
 use Rattle.team_words.specs.Acts.{IsActOf}
 use Rattle.tg_text.specs.Spelling.{is_printing, is_user_name, spell_hex}
@@ -33,6 +33,10 @@ newkey_of key_file user = cond (is_field key_file && is_user_name user) (Some (N
 
 abbrev pub merge_of : List ℕ → List ℕ → Option Command
 merge_of file bundle = cond (is_field file && is_field bundle) (Some (Merge file bundle)) None
+
+-- one word may stand for both files
+abbrev pub meet_of : List ℕ → List ℕ → Option Command
+meet_of file other = cond (is_field file && is_field other) (Some (Meet file other)) None
 
 -- what digits were decoded to, where a word spells it in lower case
 abbrev pub spelled_by : List ℕ → Result (List ℕ) FromHexError → Option (List ℕ)
@@ -80,7 +84,8 @@ command_with act (word ∷ file ∷ []) = cond (is_field file) (report_of word f
 command_with act (word ∷ first ∷ second ∷ []) =
     cond (pointwise nat_eq word (codes "merge")) (merge_of first second)
     (cond (pointwise nat_eq word (codes "newkey")) (newkey_of first second)
-    (cond (pointwise nat_eq word (codes "why")) (why_of first second) (cond (pointwise nat_eq word (codes "keys")) (keys_of first second) None)))
+    (cond (pointwise nat_eq word (codes "why")) (why_of first second)
+    (cond (pointwise nat_eq word (codes "keys")) (keys_of first second) (cond (pointwise nat_eq word (codes "meet")) (meet_of first second) None))))
 command_with act (word ∷ file ∷ key_file ∷ w ∷ ws) = keyed_with act word file key_file (w ∷ ws)
 command_with act words = None
 
@@ -115,6 +120,10 @@ IsPlain _ = ⊥
 abbrev pub IsMerge : Command → Type 0
 IsMerge (Merge file bundle) = Unit {0}
 IsMerge _ = ⊥
+
+abbrev pub IsMeet : Command → Type 0
+IsMeet (Meet file other) = Unit {0}
+IsMeet _ = ⊥
 
 abbrev pub IsShow : Command → Type 0
 IsShow (Show file) = Unit {0}

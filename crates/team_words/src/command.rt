@@ -1,5 +1,5 @@
 ghost use Rattle.std.specs.Prelude.{◌≡◌, ◌∷◌, ◌&&◌, [], cond, map, Option, None, Some, IfOk, string_bytes};
-ghost use Rattle.team_words.specs.Words.{IsCommandOf, IsKeyedBy, are_two_files, command_with, hash_of, is_field, is_title, keys_of, make_of, make_with, merge_of, newkey_of, plain_of, report_of, why_of};
+ghost use Rattle.team_words.specs.Words.{IsCommandOf, IsKeyedBy, are_two_files, command_with, hash_of, is_field, is_title, keys_of, make_of, make_with, meet_of, merge_of, newkey_of, plain_of, report_of, why_of};
 
 use crate::field::{are_fields, is_field};
 use crate::given::GivenAct;
@@ -32,6 +32,11 @@ pub enum Command {
     Merge {
         file: Word,
         bundle: Word,
+    },
+    /// Gives each of two teams' files what is connected in the other.
+    Meet {
+        file: Word,
+        other: Word,
     },
     /// Prints the team of the links in a file.
     Show {
@@ -237,6 +242,9 @@ fn pair_of(alloc: Global, word: &str, first: &str, second: &str) -> Result<Optio
     if word == "keys" {
         return keys_of(alloc, first, second);
     }
+    if word == "meet" {
+        return meet_of(alloc, first, second);
+    }
     Ok(None)
 }
 
@@ -247,6 +255,17 @@ fn merge_of(alloc: Global, file: &str, bundle: &str) -> Result<Option<Command>, 
         let file = Word::new(alloc, file)?;
         let bundle = Word::new(alloc, bundle)?;
         return Ok(Some(Command::Merge { file, bundle }));
+    }
+    Ok(None)
+}
+
+fn meet_of(alloc: Global, file: &str, other: &str) -> Result<Option<Command>, Memory>
+    ensures { IfOk result (λ found. found ≡ meet_of file.now other.now) }
+{
+    if is_field(file) && is_field(other) {
+        let file = Word::new(alloc, file)?;
+        let other = Word::new(alloc, other)?;
+        return Ok(Some(Command::Meet { file, other }));
     }
     Ok(None)
 }

@@ -124,6 +124,7 @@ fn is_given(act: &Act) -> bool
             | Act::TakeRole { .. }
             | Act::AddDevice { .. }
             | Act::RemoveDevice { .. }
+            | Act::Revoke { .. }
             | Act::Rotate { .. }
             | Act::Seal
             | Act::Title { .. }
