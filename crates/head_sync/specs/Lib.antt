@@ -1,0 +1,9 @@
+pub mod Agreeing
+pub mod Bodies
+pub mod MeetLaws
+pub mod Meetings
+pub mod Messages
+pub mod Sessions
+pub mod Steps
+pub mod Texts
+pub mod Waiting
