@@ -1,0 +1,4 @@
+mod Accepted
+mod Spelled
+mod Taking
+mod Texts

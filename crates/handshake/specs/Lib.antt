@@ -1,0 +1,3 @@
+pub mod Greetings
+pub mod Histories
+pub mod Messages

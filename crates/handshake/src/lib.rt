@@ -1,0 +1,26 @@
+//! Greetings: two devices that claim to be members prove it to each other, each over the other's fresh nonce.
+//!
+//! `specs/Messages.antt` has the four messages and the text that a device signs, and `specs/Greetings.antt` what an end answers to each
+//! message, and how far it is then. An end sends its claim (`Greeting::start`), takes the messages of the other end (`take`), and where it is
+//! asked to sign, hands the signature in (`signed`). It makes no signature itself, and sends nothing.
+//!
+//! `none_is_accepted_unproved` is the law over every list of calls: who is accepted has proved himself over this greeting's own nonce
+//! (`specs/Histories.antt`).
+#![tactic(auto)]
+
+mod fault;
+mod greeting;
+mod laws;
+mod lines;
+mod message;
+mod reacting;
+mod reading;
+mod stage;
+mod writing;
+
+pub use fault::GreetFault;
+pub use greeting::Greeting;
+pub use laws::{messages_are_spelled_once, none_is_accepted_unproved, signed_texts_differ};
+pub use message::Claim;
+pub use stage::{GreetState, Next};
+pub use writing::refuse_text;
