@@ -107,10 +107,10 @@ pub saying_replaces_none : (name text : List ℕ) (status : ℕ) (o : Outcome) (
 saying_replaces_none name text status o first rest is whole r =
     writes_replace_none name text (subst (λ (p : Outcome). Replaces name p.steps) is (subst (λ (l : List Step). Replaces name l) (sym whole) (replaces_first name first rest r)))
 
-head_step : (x y : Step) (a b : List Step) → x ∷ a ≡ y ∷ b → x ≡ y
+pub head_step : (x y : Step) (a b : List Step) → x ∷ a ≡ y ∷ b → x ≡ y
 head_step x y a b e = cc
 
-tail_steps : (x y : Step) (a b : List Step) → x ∷ a ≡ y ∷ b → a ≡ b
+pub tail_steps : (x y : Step) (a b : List Step) → x ∷ a ≡ y ∷ b → a ≡ b
 tail_steps x y a b e = cc
 
 -- the last replace of a file was done, where one was: it has these bytes

@@ -9,6 +9,7 @@ use Rattle.lms_keep.specs.KeyText.{key_text}
 use Rattle.lms_keep.specs.Signing.{advanced}
 use Rattle.link_text.specs.TeamFile.{IsFileOf}
 use Rattle.link_graph.specs.Held.{Held}
+use Rattle.team_sets.specs.Names.{same_name}
 use Rattle.link_intake.specs.Merged.{IsHeldIn}
 use Rattle.link_intake.specs.ResultsText.{results_text}
 use Rattle.lockboxes.specs.Keeping.{Keeper}
@@ -21,9 +22,10 @@ use Rattle.team_report.specs.HeadsText.{heads_text}
 use Rattle.team_report.specs.LogText.{log_text}
 use Rattle.team_words.specs.Words.{IsCommandOf}
 use Rattle.team_words.specs.declared.command.Command.{Command}
-use Rattle.team_words.specs.declared.command.Command.TheVariants.{Heads, Keys, Log, Make, Merge, Newkey, Plain, Show, Why}
+use Rattle.team_words.specs.declared.command.Command.TheVariants.{Heads, Keys, Log, Make, Meet, Merge, Newkey, Plain, Show, Why}
 use Rattle.key_commands.specs.Make.{founding_puts, make_text, making_team}
 use Rattle.key_commands.specs.Newkey.{drawn_key, making, newkey_text}
+use Rattle.exchange_commands.specs.Meet.{meeting}
 use Rattle.exchange_commands.specs.Merge.{merged, merging}
 use Rattle.author_commands.specs.Authoring.{by_found_text, found_text, link_line}
 use Rattle.author_commands.specs.Plain.{plain_plan}
@@ -34,6 +36,7 @@ use Rattle.team_run.specs.Running.{does_run, does_words}
 use Rattle.team_run.specs.Serving.{HoldsTeam}
 use Rattle.team_run.proofs.Cuts.{file_kept, given_bytes, one_name, replaced_or_not, same_files, saying_replaces_none, told_known, whole_replaces, writes_replace_none}
 use Rattle.team_run.proofs.KeyFiles.{IsNoTeam, key_no_team}
+use Rattle.team_run.proofs.Meetings.{met_replaces}
 use Rattle.team_run.proofs.Openings.{IsSaid, absent_or, founds, some_same, team_or, there_or}
 use Rattle.team_run.proofs.Reports.{IsSaying, keys_replace_none, report_replaces_none, says_why}
 use Rattle.team_run.proofs.Posted.{IsRefused, IsSigned, link_by, posted_outcome, signed_or, signed_outcome}
@@ -117,6 +120,22 @@ module _ (keeper : Keeper) (w : World) (name : List ℕ) (o : Outcome) (first re
     merge_found (inl said) = not_said said
     merge_found (inr (held, bytes, at, in_file, d)) = merged_found held bytes at in_file (there_or bundle (λ given. merging file held given) w o d)
 
+  -- so did a meeting
+  module _ (file other : List ℕ) where
+    met_found : (one : Held) (bytes : List ℕ) → fin.get w.files file ≡ Some bytes → IsHeldIn bytes one
+        → IsSaid o ⊎ ((two : Held) × (more : List ℕ) × (fin.get w.files other ≡ Some more) × IsHeldIn more two × meeting file other one two w o) → FoundTeam
+    met_found one bytes at in_file (inl said) = not_said said
+    met_found one bytes at in_file (inr (two, more, at_other, in_other, d)) =
+        go (met_replaces w name o first rest whole replaced file other one two (same_name one.team two.team) d)
+      where
+        go : (file ≡ name) ⊎ (other ≡ name) → FoundTeam
+        go (inl e) = (one, (bytes, subst (λ (n : List ℕ). fin.get w.files n ≡ Some bytes) e at, in_file.file))
+        go (inr e) = (two, (more, subst (λ (n : List ℕ). fin.get w.files n ≡ Some more) e at_other, in_other.file))
+
+    meet_found : IsSaid o ⊎ ((one : Held) × (bytes : List ℕ) × (fin.get w.files file ≡ Some bytes) × IsHeldIn bytes one × opening FindsTeam other (λ two. meeting file other one two) w o) → FoundTeam
+    meet_found (inl said) = not_said said
+    meet_found (inr (one, bytes, at, in_file, d)) = met_found one bytes at in_file (team_or other (λ two. meeting file other one two) w o d)
+
   abbrev IsMakeOf : Option Command → Type 0
   IsMakeOf command = (key_file : List ℕ) × (user : List ℕ) × (title : List ℕ) × (command ≡ Some (Make name key_file user title))
 
@@ -178,6 +197,9 @@ module _ (keeper : Keeper) (w : World) (name : List ℕ) (o : Outcome) (first re
   command_left (Some (Plain file key_file act)) d none = inl (plain_left file key_file act d none)
   command_left (Some (Merge file bundle)) d none =
       let team = merge_found file bundle (team_or file (λ held. opening FindsBytes bundle (λ given. merging file held given)) w o d) in
+      absurd (none team.0 team.1)
+  command_left (Some (Meet file other)) d none =
+      let team = meet_found file other (team_or file (λ one. opening FindsTeam other (λ two. meeting file other one two)) w o d) in
       absurd (none team.0 team.1)
   command_left (Some (Show file)) d none = absurd (none_replaced file (λ held. saying 0 (show_text held.team held.links)) (λ held. (show_text held.team held.links, 0, refl)) d)
   command_left (Some (Log file)) d none = absurd (none_replaced file (λ held. saying 0 (log_text held.links)) (λ held. (log_text held.links, 0, refl)) d)

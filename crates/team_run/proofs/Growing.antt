@@ -20,6 +20,7 @@ use Rattle.link_intake.specs.ResultsText.{results_text}
 use Rattle.link_intake.specs.UnionLaws.{Fits, HasItem, IsAmong, IsTextOf, IsUnion, IsValidText, NoClash}
 use Rattle.link_intake.proofs.MergedFiles.{bundle_union}
 use Rattle.link_intake.proofs.Unions.{clash_later, clash_within, fits_later, fits_within, union_join, union_same}
+use Rattle.head_sync.specs.MeetLaws.{MeetingUnites}
 use Rattle.lockboxes.specs.Keeping.{Keeper}
 use Rattle.outcomes.specs.Refusing.{FindsBytes, FindsNone, opening}
 use Rattle.outcomes.specs.Seeing.{AreKnown, IsCut}
@@ -28,9 +29,10 @@ use Rattle.openers.specs.Team.{FindsTeam}
 use Rattle.team_report.specs.HeadsText.{heads_text}
 use Rattle.team_report.specs.LogText.{log_text}
 use Rattle.team_words.specs.declared.command.Command.{Command}
-use Rattle.team_words.specs.declared.command.Command.TheVariants.{Heads, Keys, Log, Make, Merge, Newkey, Plain, Show, Why}
+use Rattle.team_words.specs.declared.command.Command.TheVariants.{Heads, Keys, Log, Make, Meet, Merge, Newkey, Plain, Show, Why}
 use Rattle.key_commands.specs.Make.{founding_puts, make_text, making_team}
 use Rattle.key_commands.specs.Newkey.{drawn_key, making, newkey_text}
+use Rattle.exchange_commands.specs.Meet.{meeting}
 use Rattle.exchange_commands.specs.Merge.{merged, merging}
 use Rattle.report_commands.specs.Why.{explaining}
 use Rattle.author_commands.specs.Plain.{plain_plan}
@@ -39,6 +41,7 @@ use Rattle.team_run.specs.ManyRuns.{AreRuns, IsGivenBy, IsGivenIn, IsReplaced, I
 use Rattle.team_run.specs.Running.{does_run, does_words}
 use Rattle.team_run.specs.Serving.{HoldsTeam}
 use Rattle.team_run.proofs.Cuts.{draws_replace_none, file_kept, last_bytes, replaced_or_not, replaces_part, same_files, saying_replaces_none, told_known, whole_replaces, writes_replace_none}
+use Rattle.team_run.proofs.Meetings.{meeting_grows}
 use Rattle.team_run.proofs.Openings.{IsSaid, absent_or, founds, never_both, some_same, team_or, there_or}
 use Rattle.team_run.proofs.Posted.{authored_grows}
 use Rattle.team_run.proofs.Reports.{IsSaying, keys_replace_none, report_replaces_none, says_why}
@@ -122,7 +125,7 @@ module _ (keeper : Keeper) (key_file user : List ℕ) (w : World) (o : Outcome) 
   pub newkey_absent : does_words keeper (Some (Newkey key_file user)) w o → fin.get w.files name ≡ None
   newkey_absent d = by_key_file (absent_or key_file (λ none w o. o ≡ making keeper.public_of key_file (drawn_key user w)) w o d)
 
-module _ (once : LinkIsSpelledOnce) (file_once : FileIsReadOnce) (bundle_once : BundleIsReadOnce) (key_once : KeyIsSpelledOnce) (keeper : Keeper) (w : World) (name : List ℕ) (old : Held)
+module _ (once : LinkIsSpelledOnce) (file_once : FileIsReadOnce) (bundle_once : BundleIsReadOnce) (key_once : KeyIsSpelledOnce) (unites : MeetingUnites) (keeper : Keeper) (w : World) (name : List ℕ) (old : Held)
     (there : HoldsTeam w.files name old) (o : Outcome) (first rest : List Step) (whole : o.steps ≡ first ++ rest) (replaced : Replaces name first) where
   -- the file is the union of its links and what the command gives
   abbrev Grows : Option Command → Type 0
@@ -189,6 +192,22 @@ module _ (once : LinkIsSpelledOnce) (file_once : FileIsReadOnce) (bundle_once : 
     file_grows (inl said) apart fits = not_said said
     file_grows (inr (held, bytes, at, in_file, d)) apart fits = bundle_grows held bytes at in_file (there_or bundle (λ given. merging file held given) w o d) apart fits
 
+  module _ (file other : List ℕ) where
+    met_grows : (one two : Held) (bytes more : List ℕ) → fin.get w.files file ≡ Some bytes → IsHeldIn bytes one → fin.get w.files other ≡ Some more → IsHeldIn more two
+        → meeting file other one two w o → Grows (Some (Meet file other))
+    met_grows one two bytes more at in_file at_other in_other d apart fits =
+        meeting_grows file_once unites w name old there o first rest whole replaced file other one two bytes more at in_file at_other in_other d apart fits
+
+    others_grow : (one : Held) (bytes : List ℕ) → fin.get w.files file ≡ Some bytes → IsHeldIn bytes one
+        → IsSaid o ⊎ ((two : Held) × (more : List ℕ) × (fin.get w.files other ≡ Some more) × IsHeldIn more two × meeting file other one two w o) → Grows (Some (Meet file other))
+    others_grow one bytes at in_file (inl said) apart fits = not_said said
+    others_grow one bytes at in_file (inr (two, more, at_other, in_other, d)) apart fits = met_grows one two bytes more at in_file at_other in_other d apart fits
+
+    files_grow : IsSaid o ⊎ ((one : Held) × (bytes : List ℕ) × (fin.get w.files file ≡ Some bytes) × IsHeldIn bytes one × opening FindsTeam other (λ two. meeting file other one two) w o)
+        → Grows (Some (Meet file other))
+    files_grow (inl said) apart fits = not_said said
+    files_grow (inr (one, bytes, at, in_file, d)) apart fits = others_grow one bytes at in_file (team_or other (λ two. meeting file other one two) w o d) apart fits
+
   none_replaced : (file : List ℕ) (tells : Held → Outcome) → ((held : Held) → IsSaying (tells held)) → opening FindsTeam file (λ held w o. o ≡ tells held) w o → ⊥
   none_replaced file tells says d = report_replaces_none file name tells says w o first rest whole replaced d
 
@@ -202,13 +221,14 @@ module _ (once : LinkIsSpelledOnce) (file_once : FileIsReadOnce) (bundle_once : 
       authored_grows file_once key_once (plain_plan act w.moment) file key_file w name o first rest whole replaced (one_plan act w.moment)
       (λ held s p is range h. plain_sound act w.moment may d.0 held s is range p h) old there d.1
   command_grows (Some (Merge file bundle)) right d apart fits = file_grows file bundle (team_or file (λ held. opening FindsBytes bundle (λ given. merging file held given)) w o d) apart fits
+  command_grows (Some (Meet file other)) right d apart fits = files_grow file other (team_or file (λ one. opening FindsTeam other (λ two. meeting file other one two)) w o d) apart fits
   command_grows (Some (Show file)) right d apart fits = absurd (none_replaced file (λ held. saying 0 (show_text held.team held.links)) (λ held. (show_text held.team held.links, 0, refl)) d)
   command_grows (Some (Log file)) right d apart fits = absurd (none_replaced file (λ held. saying 0 (log_text held.links)) (λ held. (log_text held.links, 0, refl)) d)
   command_grows (Some (Heads file)) right d apart fits = absurd (none_replaced file (λ held. saying 0 (heads_text held.links)) (λ held. (heads_text held.links, 0, refl)) d)
   command_grows (Some (Why file link)) right d apart fits = absurd (none_replaced file (λ held. explaining held.links link) (λ held. says_why held link) d)
   command_grows (Some (Keys file key_file)) right d apart fits = absurd (keys_replace_none keeper file key_file name w o first rest whole replaced d)
 
-module _ (once : LinkIsSpelledOnce) (file_once : FileIsReadOnce) (bundle_once : BundleIsReadOnce) (key_once : KeyIsSpelledOnce) (keeper : Keeper) (name : List ℕ) where
+module _ (once : LinkIsSpelledOnce) (file_once : FileIsReadOnce) (bundle_once : BundleIsReadOnce) (key_once : KeyIsSpelledOnce) (unites : MeetingUnites) (keeper : Keeper) (name : List ℕ) where
   -- one run
   module _ (r : OneRun) (old : Held) (there : HoldsTeam r.old.files name old) where
     abbrev Given : List ℕ → Type 0
@@ -228,7 +248,7 @@ module _ (once : LinkIsSpelledOnce) (file_once : FileIsReadOnce) (bundle_once : 
         let Gives = CommandGives keeper command r.old name in
         let same = λ (b : List ℕ). words_give keeper r.words r.old name b command done.does.1 in
         let among = among_more old Given Gives (λ b k. (done, (same b).1 k)) in
-        let grown = command_grows once file_once bundle_once key_once keeper r.old name old there done.outcome cut.first cut.rest cut.whole done.replaced command (words_right done.does.1) done.does.2
+        let grown = command_grows once file_once bundle_once key_once unites keeper r.old name old there done.outcome cut.first cut.rest cut.whole done.replaced command (words_right done.does.1) done.does.2
         (clash_within old old Given Gives refl among apart) (fits_within old old Given Gives refl among fits) in (
           grown.0,
           subst (λ (m : FileMap). HoldsTeam m name grown.0) (sym (same_files r.new (after cut.first r.old) cut.told)) grown.1,

@@ -4,6 +4,7 @@ mod Cuts
 mod Firsts
 mod Growing
 mod KeyFiles
+mod Meetings
 mod Openings
 mod Posted
 mod Reports

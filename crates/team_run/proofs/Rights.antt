@@ -10,9 +10,9 @@ use Rattle.std.proofs.lemmas.Str.{IsUtf8-from_is_utf8}
 use Rattle.tg_text.specs.Spelling.{IsTitle, is_printing, is_user_name}
 use Rattle.acts.specs.declared.entry.Act.{Act}
 use Rattle.team_words.specs.Acts.{IsActOf, MayGive}
-use Rattle.team_words.specs.Words.{IsCommandOf, are_two_files, asks_act, command_with, is_field, is_title, keyed_with, make_of, make_with, merge_of, newkey_of, hash_of, keys_of, plain_of, report_of, why_of}
+use Rattle.team_words.specs.Words.{IsCommandOf, are_two_files, asks_act, command_with, is_field, is_title, keyed_with, make_of, make_with, meet_of, merge_of, newkey_of, hash_of, keys_of, plain_of, report_of, why_of}
 use Rattle.team_words.specs.declared.command.Command.{Command}
-use Rattle.team_words.specs.declared.command.Command.TheVariants.{Heads, Keys, Log, Make, Merge, Newkey, Plain, Show, Why}
+use Rattle.team_words.specs.declared.command.Command.TheVariants.{Heads, Keys, Log, Make, Meet, Merge, Newkey, Plain, Show, Why}
 
 -- what the words of a command are
 abbrev pub IsRight : Option Command → Type 0
@@ -21,6 +21,7 @@ IsRight (Some (Make file key_file user title)) = (file ≢ key_file) × IsTrue (
 IsRight (Some (Newkey key_file user)) = Unit {0}
 IsRight (Some (Plain file key_file act)) = MayGive act
 IsRight (Some (Merge file bundle)) = Unit {0}
+IsRight (Some (Meet file other)) = Unit {0}
 IsRight (Some (Show file)) = Unit {0}
 IsRight (Some (Log file)) = Unit {0}
 IsRight (Some (Heads file)) = Unit {0}
@@ -56,6 +57,9 @@ make_right file key_file user title =
 merge_right : (file bundle : List ℕ) → IsRight (merge_of file bundle)
 merge_right file bundle = either (is_field file && is_field bundle) (Some (Merge file bundle)) None (λ t. tt) tt
 
+meet_right : (file other : List ℕ) → IsRight (meet_of file other)
+meet_right file other = either (is_field file && is_field other) (Some (Meet file other)) None (λ t. tt) tt
+
 newkey_right : (key_file user : List ℕ) → IsRight (newkey_of key_file user)
 newkey_right key_file user = either (is_field key_file && is_user_name user) (Some (Newkey key_file user)) None (λ t. tt) tt
 
@@ -78,13 +82,15 @@ keys_right file key_file = either (is_field file && is_field key_file) (Some (Ke
 -- a command with two fields
 pair_right : (word first second : List ℕ) → IsRight (command_with None (word ∷ first ∷ second ∷ []))
 pair_right word first second =
-    let keys = cond (pointwise nat_eq word (codes "keys")) (keys_of first second) None in
+    let meet = cond (pointwise nat_eq word (codes "meet")) (meet_of first second) None in
+    let keys = cond (pointwise nat_eq word (codes "keys")) (keys_of first second) meet in
     let why = cond (pointwise nat_eq word (codes "why")) (why_of first second) keys in
     let newkey = cond (pointwise nat_eq word (codes "newkey")) (newkey_of first second) why in
     either (pointwise nat_eq word (codes "merge")) (merge_of first second) newkey (λ t. merge_right first second)
     (either (pointwise nat_eq word (codes "newkey")) (newkey_of first second) why (λ t. newkey_right first second)
     (either (pointwise nat_eq word (codes "why")) (why_of first second) keys (λ t. why_right first second)
-    (either (pointwise nat_eq word (codes "keys")) (keys_of first second) None (λ t. keys_right first second) tt)))
+    (either (pointwise nat_eq word (codes "keys")) (keys_of first second) meet (λ t. keys_right first second)
+    (either (pointwise nat_eq word (codes "meet")) (meet_of first second) None (λ t. meet_right first second) tt))))
 
 make_with_right : (file key_file : List ℕ) (words : List (List ℕ)) → IsRight (make_with file key_file words)
 make_with_right file key_file [] = tt

@@ -3,6 +3,7 @@ use Rattle.std.proofs.Common.{◌≡◌, ◌≤◌, ◌<◌, ◌⊎◌, ◌∙�
 use Rattle.std.specs.Option.{option_map_or}
 use Rattle.std.proofs.lemmas.Bool.{cases_lt}
 use Rattle.acts.specs.declared.entry.Act.{Act}
+use Rattle.team_sets.specs.Names.{same_name}
 use Rattle.team_model.specs.ShowText.{show_text}
 use Rattle.team_model.specs.declared.terms.Link.{Link}
 use Rattle.lms_tree.specs.Signatures.{public_key}
@@ -32,12 +33,13 @@ use Rattle.team_report.specs.HeadsText.{heads_text}
 use Rattle.team_report.specs.LogText.{log_text}
 use Rattle.team_report.specs.WhyText.{link_named, why_text}
 use Rattle.team_words.specs.declared.command.Command.{Command}
-use Rattle.team_words.specs.declared.command.Command.TheVariants.{Heads, Keys, Log, Make, Merge, Newkey, Plain, Show, Why}
+use Rattle.team_words.specs.declared.command.Command.TheVariants.{Heads, Keys, Log, Make, Meet, Merge, Newkey, Plain, Show, Why}
 use Rattle.key_commands.specs.Make.{making_team}
 use Rattle.key_commands.specs.Newkey.{drawn_key, making}
+use Rattle.exchange_commands.specs.Meet.{by_team, meeting}
 use Rattle.exchange_commands.specs.Merge.{merging}
 use Rattle.team_run.specs.Running.{does}
-use Rattle.team_run.specs.Serving.{EndsWell, IsComplete, Serves, clash_status, plan_status}
+use Rattle.team_run.specs.Serving.{EndsMet, EndsWell, IsComplete, Serves, clash_status, plan_status}
 use Rattle.team_run.proofs.Openings.{absent_opens, founds, key_opens, team_opens, there_opens}
 
 status_is : (o p : Outcome) → o ≡ p → o.status ≡ p.status
@@ -71,6 +73,11 @@ why_status : (links : List Link) (found : Option Link) → (option_map_or (λ te
 why_status links None = refl
 why_status links (Some x) = refl
 
+-- how two ends of one team end, or two teams
+met_ends : (file other : List ℕ) (one two : Held) (o : Outcome) (same : Bool) → by_team same file other one two o → EndsMet same one two o.status
+met_ends file other one two o true (kept, given, m, is, e) = (kept, given, m, is, ap (λ (x : Outcome). x.status) e)
+met_ends file other one two o false e = ap (λ (x : Outcome). x.status) e
+
 pub ends_well : (keeper : Keeper) (command : Command) (w : World) (o : Outcome) → Serves command w → does keeper command w o → EndsWell command w o.status
 ends_well keeper (Make file key_file user title) w o serves d =
     let first = absent_opens file (λ none. opening FindsNone key_file (λ none. founds keeper.public_of file key_file user title)) w o serves.0 d in
@@ -103,6 +110,16 @@ ends_well keeper (Merge file bundle) w o serves d =
       bundled = second.1;
       merged = record { old = first.0; held = first.3; intake = m.2 };
       ends = ap (λ (x : Outcome). x.status) m.3;
+    }
+ends_well keeper (Meet file other) w o serves d =
+    let first = team_opens file (λ one. opening FindsTeam other (λ two. meeting file other one two)) w o serves.0.0 serves.0.1 d in
+    let second = team_opens other (λ two. meeting file other first.0 two) w o serves.1.0 serves.1.1 first.4 in
+    record {
+      one = first.0;
+      two = second.0;
+      in_file = subst (λ (f : Option (List ℕ)). FindsTeam f (holds first.0)) (sym first.2) first.3;
+      in_other = subst (λ (f : Option (List ℕ)). FindsTeam f (holds second.0)) (sym second.2) second.3;
+      ends = met_ends file other first.0 second.0 o (same_name first.0.team second.0.team) second.4;
     }
 ends_well keeper (Show file) w o serves d =
     let opened = team_opens file (λ held w o. o ≡ saying 0 (show_text held.team held.links)) w o serves.0 serves.1 d in

@@ -4,7 +4,7 @@ use Rattle.std.proofs.lemmas.List.Elements.{All-from_recursion}
 use Rattle.outcomes.specs.declared.answer.Answer.{Answer}
 use Rattle.outcomes.specs.Ending.{IsConcluded}
 use Rattle.team_words.specs.declared.command.Command.{Command}
-use Rattle.team_words.specs.declared.command.Command.TheVariants.{Heads, Keys, Log, Make, Merge, Newkey, Plain, Show, Why}
+use Rattle.team_words.specs.declared.command.Command.TheVariants.{Heads, Keys, Log, Make, Meet, Merge, Newkey, Plain, Show, Why}
 use Rattle.team_run.specs.Running.{statuses_of}
 
 -- where the answer's status is 2, the run ends with 2, unless it fails
@@ -16,6 +16,7 @@ pub never_two : (command : Command) → All (λ (n : ℕ). n ≢ 2) (statuses_of
 never_two (Make file key_file user title) = All-from_recursion (λ (n : ℕ). n ≢ 2) (0 ∷ 3 ∷ []) (λ e. omega (arith, e), (λ e. omega (arith, e), tt))
 never_two (Newkey key_file user) = All-from_recursion (λ (n : ℕ). n ≢ 2) (0 ∷ 3 ∷ []) (λ e. omega (arith, e), (λ e. omega (arith, e), tt))
 never_two (Merge file bundle) = All-from_recursion (λ (n : ℕ). n ≢ 2) (0 ∷ 1 ∷ 3 ∷ []) (λ e. omega (arith, e), (λ e. omega (arith, e), (λ e. omega (arith, e), tt)))
+never_two (Meet file other) = All-from_recursion (λ (n : ℕ). n ≢ 2) (0 ∷ 1 ∷ 3 ∷ 4 ∷ []) (λ e. omega (arith, e), (λ e. omega (arith, e), (λ e. omega (arith, e), (λ e. omega (arith, e), tt))))
 never_two (Show file) = All-from_recursion (λ (n : ℕ). n ≢ 2) (0 ∷ 3 ∷ []) (λ e. omega (arith, e), (λ e. omega (arith, e), tt))
 never_two (Log file) = All-from_recursion (λ (n : ℕ). n ≢ 2) (0 ∷ 3 ∷ []) (λ e. omega (arith, e), (λ e. omega (arith, e), tt))
 never_two (Heads file) = All-from_recursion (λ (n : ℕ). n ≢ 2) (0 ∷ 3 ∷ []) (λ e. omega (arith, e), (λ e. omega (arith, e), tt))

@@ -11,13 +11,16 @@ use Rattle.link_text.specs.LinkText.{text}
 use Rattle.link_graph.specs.Held.{Held}
 use Rattle.link_graph.specs.Taking.{HasText}
 use Rattle.link_intake.specs.UnionLaws.{Fits, IsAmong, IsTextOf, IsUnion, IsValidText, NoClash}
+use Rattle.head_sync.specs.MeetLaws.{IsConnectedText}
 use Rattle.lockboxes.specs.Keeping.{Keeper}
 use Rattle.outcomes.specs.Ending.{Runs}
+use Rattle.outcomes.specs.Refusing.{holds}
 use Rattle.outcomes.specs.Seeing.{Contents, IsCut}
 use Rattle.outcomes.specs.Steps.{World, Step, Outcome, draw, take_byte, replace, write}
+use Rattle.openers.specs.Team.{FindsTeam}
 use Rattle.team_words.specs.Words.{IsCommandOf}
 use Rattle.team_words.specs.declared.command.Command.{Command}
-use Rattle.team_words.specs.declared.command.Command.TheVariants.{Heads, Keys, Log, Make, Merge, Newkey, Plain, Show, Why}
+use Rattle.team_words.specs.declared.command.Command.TheVariants.{Heads, Keys, Log, Make, Meet, Merge, Newkey, Plain, Show, Why}
 use Rattle.author_commands.specs.Authoring.{IsAuthoredText}
 use Rattle.author_commands.specs.Plain.{plain_plan}
 use Rattle.key_commands.specs.Make.{founding, signed_link}
@@ -64,12 +67,17 @@ pub record IsReplaced (keeper : Keeper) (r : OneRun) (name : List ℕ) : Type 0 
 abbrev pub root_of : (List ℕ → List ℕ) → List ℕ → List ℕ → World → Link
 root_of public_of user title w = let s = drawn_key user w in signed_link s (founding public_of s title w.moment)
 
+-- the text is that of a connected link of a file
+abbrev pub IsConnectedIn : World → List ℕ → List ℕ → Type 0
+IsConnectedIn w file b = (held : Held) × FindsTeam (fin.get w.files file) (holds held) × IsConnectedText held b
+
 -- the text is one that the command gives to the team of the file
 abbrev pub Gives : Keeper → Command → World → List ℕ → List ℕ → Type 0
 Gives keeper (Make file key_file user title) w name b = (file ≡ name) × (b ≡ text (root_of keeper.public_of user title w))
 Gives keeper (Newkey key_file user) w name b = ⊥
 Gives keeper (Plain file key_file act) w name b = (file ≡ name) × IsAuthoredText (plain_plan act w.moment) file key_file w b
 Gives keeper (Merge file bundle) w name b = (file ≡ name) × ((bytes : List ℕ) × (fin.get w.files bundle ≡ Some bytes) × IsTextOf bytes b)
+Gives keeper (Meet file other) w name b = ((file ≡ name) × IsConnectedIn w other b) ⊎ ((other ≡ name) × IsConnectedIn w file b)
 Gives keeper (Show file) w name b = ⊥
 Gives keeper (Log file) w name b = ⊥
 Gives keeper (Heads file) w name b = ⊥

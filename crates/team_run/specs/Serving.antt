@@ -1,9 +1,9 @@
 -- What each command needs of the files that it names, and how it ends where they are so and nothing fails.
-use Rattle.std.specs.Prelude.{◌≡◌, ◌⊎◌, ℕ, Bool, false, if◌then◌else◌, nat_lt, List, Option, Some, None, is_some, Result, Ok, Err}
+use Rattle.std.specs.Prelude.{◌≡◌, ◌⊎◌, ℕ, Bool, true, false, if◌then◌else◌, nat_lt, List, Option, Some, None, is_some, Result, Ok, Err}
 use Rattle.std.specs.FinMap as fin
 use Rattle.tg_outside.specs.Contents.{FileMap}
 use Rattle.acts.specs.declared.entry.Act.{Act}
-use Rattle.team_sets.specs.Names.{Name}
+use Rattle.team_sets.specs.Names.{Name, same_name}
 use Rattle.lms_tree.specs.Signatures.{public_key}
 use Rattle.lms_keep.specs.KeyText.{IsKeyFile, leaves}
 use Rattle.lms_keep.specs.Signing.{tree_key}
@@ -14,12 +14,14 @@ use Rattle.link_graph.specs.Held.{Held}
 use Rattle.link_intake.specs.declared.item_result.ItemResult.{ItemResult}
 use Rattle.link_intake.specs.Merged.{IsMerged}
 use Rattle.link_intake.specs.ResultsText.{results_status}
+use Rattle.head_sync.specs.Meetings.{IsMet}
+use Rattle.head_sync.specs.declared.meeting.Met.{Met}
 use Rattle.lockboxes.specs.Keeping.{Keeper}
 use Rattle.outcomes.specs.Refusing.{holds}
 use Rattle.outcomes.specs.Seeing.{AreKnown, Contents, Counts, Rises}
 use Rattle.outcomes.specs.Steps.{World, Outcome}
 use Rattle.team_words.specs.declared.command.Command.{Command}
-use Rattle.team_words.specs.declared.command.Command.TheVariants.{Heads, Keys, Log, Make, Merge, Newkey, Plain, Show, Why}
+use Rattle.team_words.specs.declared.command.Command.TheVariants.{Heads, Keys, Log, Make, Meet, Merge, Newkey, Plain, Show, Why}
 use Rattle.openers.specs.Key.{FindsKey}
 use Rattle.openers.specs.Team.{FindsTeam}
 use Rattle.team_report.specs.WhyText.{link_named}
@@ -27,6 +29,7 @@ use Rattle.team_author.specs.Planning.{planned}
 use Rattle.team_author.specs.declared.plan_fault.PlanFault.{PlanFault}
 use Rattle.author_commands.specs.Authoring.{found_text, signature_by}
 use Rattle.author_commands.specs.Signing.{authored}
+use Rattle.exchange_commands.specs.Meet.{met_status}
 use Rattle.team_run.specs.Running.{does}
 
 -- the file is there, and is the team file of these links
@@ -52,6 +55,7 @@ Serves (Make file key_file user title) w = IsAbsent w file × IsAbsent w key_fil
 Serves (Newkey key_file user) w = IsAbsent w key_file
 Serves (Plain file key_file act) w = IsTeamFile w file × IsKeyThere w key_file
 Serves (Merge file bundle) w = IsTeamFile w file × IsThere w bundle
+Serves (Meet file other) w = IsTeamFile w file × IsTeamFile w other
 Serves (Show file) w = IsTeamFile w file
 Serves (Log file) w = IsTeamFile w file
 Serves (Heads file) w = IsTeamFile w file
@@ -97,12 +101,26 @@ pub record EndsByName (w : World) (file : List ℕ) (name : Name) (status : ℕ)
   pub in_file : FindsTeam (fin.get w.files file) (holds held)
   pub ends : status ≡ (if is_some (link_named held.links name) then 0 else 4)
 
+-- of one team the two meet, and the status is 1 exactly where one of them refuses a link, else 0; of two teams it is 4
+abbrev pub EndsMet : Bool → Held → Held → ℕ → Type 0
+EndsMet true one two status = (kept : Held) × (given : Held) × (m : Met) × IsMet one two kept given m × (status ≡ met_status m)
+EndsMet false one two status = status ≡ 4
+
+-- The links of the two files are those of one team, which meet, or of two teams.
+pub record EndsByMeeting (w : World) (file other : List ℕ) (status : ℕ) : Type 0 where
+  pub one : Held
+  pub two : Held
+  pub in_file : FindsTeam (fin.get w.files file) (holds one)
+  pub in_other : FindsTeam (fin.get w.files other) (holds two)
+  pub ends : EndsMet (same_name one.team two.team) one two status
+
 -- how a command ends whose files are so
 abbrev pub EndsWell : Command → World → ℕ → Type 0
 EndsWell (Make file key_file user title) w status = status ≡ 0
 EndsWell (Newkey key_file user) w status = status ≡ 0
 EndsWell (Plain file key_file act) w status = EndsByPlan w file key_file act status
 EndsWell (Merge file bundle) w status = EndsByItems w file bundle status
+EndsWell (Meet file other) w status = EndsByMeeting w file other status
 EndsWell (Show file) w status = status ≡ 0
 EndsWell (Log file) w status = status ≡ 0
 EndsWell (Heads file) w status = status ≡ 0

@@ -2,6 +2,7 @@
 ghost use Rattle.team_run.specs.ManyRuns.{MakeBeginsTeam, MergeIsDone, PlainIsDone, RunsInAnyOrder, RunsLeaveUnion, ShowAfterRuns, ShowPrintsTeam, TeamsAreBegun};
 ghost use Rattle.team_run.specs.Serving.{ServedEndWell};
 
+use head_sync::meeting_unites;
 use key_commands::made_is_held;
 use link_intake::merges_in_any_order;
 use link_text::link_is_spelled_once;
@@ -23,6 +24,7 @@ pub fn runs_leave_union()
     file_is_read_once();
     bundle_is_read_once();
     key_is_spelled_once();
+    meeting_unites();
 }
 
 /// Two files of one team to which runs gave the same valid texts, those that stood in them at first included, hold the same bytes.

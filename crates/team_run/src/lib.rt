@@ -9,7 +9,7 @@ mod laws;
 mod running;
 
 pub use author_commands::run_plain;
-pub use exchange_commands::run_merge;
+pub use exchange_commands::{run_meet, run_merge};
 pub use key_commands::{run_make, run_newkey};
 pub use laws::{
     make_begins_team, merge_is_done, plain_is_done, runs_in_any_order, runs_leave_union,

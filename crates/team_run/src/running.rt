@@ -4,7 +4,7 @@ ghost use Rattle.outcomes.specs.Seeing.{contents_of, counts_of};
 ghost use Rattle.outcomes.specs.Ending.{IsCaused, Runs, answer_of};
 ghost use Rattle.team_words.specs.Words.{IsCommandOf};
 ghost use Rattle.team_words.specs.declared.command.Command.{Command};
-ghost use Rattle.team_run.specs.Running.{does, does_run, statuses_of};
+ghost use Rattle.team_run.specs.Running.{IsExchange, IsReport, IsSigning, does, does_run, statuses_of};
 ghost use Rattle.team_run.specs.Serving.{IsComplete};
 
 use crate::laws::{
@@ -12,7 +12,7 @@ use crate::laws::{
     show_after_runs, teams_are_begun,
 };
 use author_commands::run_plain;
-use exchange_commands::run_merge;
+use exchange_commands::{run_meet, run_merge};
 use key_commands::{run_make, run_newkey};
 use lockboxes::Sealer;
 use outcomes::{Answer, NO_MEMORY, Stop, USAGE, conclude};
@@ -95,6 +95,50 @@ pub fn run_command<F: Files, E: Entropy, C: Clock, I: Source, O: Sink, K: Sealer
     ensures status { result < 5 → Contains (statuses_of command.now) result }
 {
     match command {
+        Command::Make { .. } | Command::Newkey { .. } | Command::Plain { .. } => {
+            run_signing(
+                alloc, command, files, entropy, clock, input, out, sealer, steps,
+            )
+        }
+        Command::Merge { .. } | Command::Meet { .. } => {
+            run_exchange(
+                alloc, command, files, entropy, clock, input, out, sealer, steps,
+            )
+        }
+        Command::Show { .. }
+        | Command::Log { .. }
+        | Command::Heads { .. }
+        | Command::Why { .. }
+        | Command::Keys { .. } => {
+            run_report(
+                alloc, command, files, entropy, clock, input, out, sealer, steps,
+            )
+        }
+    }
+}
+
+// Does a command that makes a key or signs by one.
+fn run_signing<F: Files, E: Entropy, C: Clock, I: Source, O: Sink, K: Sealer, L: StepLedger>(
+    alloc: Global,
+    command: &Command,
+    files: &mut F,
+    entropy: &mut E,
+    clock: &mut C,
+    input: &mut I,
+    out: &mut O,
+    sealer: &K,
+    steps: &mut Steps<L>,
+) -> u8
+    requires { IsSigning command.now }
+    ensures runs { let keeper : Keeper = record { public_of = K.public; unseal = K.opened } in
+        Runs (does keeper command.now)
+        (contents_of F.files E.left C.moment I.left O.taken files.old entropy.old clock.old input.old out.old)
+        (contents_of F.files E.left C.moment I.left O.taken files.new entropy.new clock.new input.new out.new) result }
+    ensures cause { IsCaused (counts_of F.faults E.faults I.faults O.faults files.old entropy.old input.old out.old)
+        (counts_of F.faults E.faults I.faults O.faults files.new entropy.new input.new out.new) result }
+    ensures status { result < 5 → Contains (statuses_of command.now) result }
+{
+    match command {
         Command::Make { .. } => {
             run_make(
                 alloc, command, files, entropy, clock, input, out, sealer, steps,
@@ -110,11 +154,68 @@ pub fn run_command<F: Files, E: Entropy, C: Clock, I: Source, O: Sink, K: Sealer
                 alloc, command, files, entropy, clock, input, out, sealer, steps,
             )
         }
+        _ => unreachable!(),
+    }
+}
+
+// Does a command that takes links from others.
+fn run_exchange<F: Files, E: Entropy, C: Clock, I: Source, O: Sink, K: Sealer, L: StepLedger>(
+    alloc: Global,
+    command: &Command,
+    files: &mut F,
+    entropy: &mut E,
+    clock: &mut C,
+    input: &mut I,
+    out: &mut O,
+    sealer: &K,
+    steps: &mut Steps<L>,
+) -> u8
+    requires { IsExchange command.now }
+    ensures runs { let keeper : Keeper = record { public_of = K.public; unseal = K.opened } in
+        Runs (does keeper command.now)
+        (contents_of F.files E.left C.moment I.left O.taken files.old entropy.old clock.old input.old out.old)
+        (contents_of F.files E.left C.moment I.left O.taken files.new entropy.new clock.new input.new out.new) result }
+    ensures cause { IsCaused (counts_of F.faults E.faults I.faults O.faults files.old entropy.old input.old out.old)
+        (counts_of F.faults E.faults I.faults O.faults files.new entropy.new input.new out.new) result }
+    ensures status { result < 5 → Contains (statuses_of command.now) result }
+{
+    match command {
         Command::Merge { .. } => {
             run_merge(
                 alloc, command, files, entropy, clock, input, out, sealer, steps,
             )
         }
+        Command::Meet { .. } => {
+            run_meet(
+                alloc, command, files, entropy, clock, input, out, sealer, steps,
+            )
+        }
+        _ => unreachable!(),
+    }
+}
+
+// Does a command that reports.
+fn run_report<F: Files, E: Entropy, C: Clock, I: Source, O: Sink, K: Sealer, L: StepLedger>(
+    alloc: Global,
+    command: &Command,
+    files: &mut F,
+    entropy: &mut E,
+    clock: &mut C,
+    input: &mut I,
+    out: &mut O,
+    sealer: &K,
+    steps: &mut Steps<L>,
+) -> u8
+    requires { IsReport command.now }
+    ensures runs { let keeper : Keeper = record { public_of = K.public; unseal = K.opened } in
+        Runs (does keeper command.now)
+        (contents_of F.files E.left C.moment I.left O.taken files.old entropy.old clock.old input.old out.old)
+        (contents_of F.files E.left C.moment I.left O.taken files.new entropy.new clock.new input.new out.new) result }
+    ensures cause { IsCaused (counts_of F.faults E.faults I.faults O.faults files.old entropy.old input.old out.old)
+        (counts_of F.faults E.faults I.faults O.faults files.new entropy.new input.new out.new) result }
+    ensures status { result < 5 → Contains (statuses_of command.now) result }
+{
+    match command {
         Command::Show { .. } => {
             run_show(
                 alloc, command, files, entropy, clock, input, out, sealer, steps,
@@ -140,6 +241,7 @@ pub fn run_command<F: Files, E: Entropy, C: Clock, I: Source, O: Sink, K: Sealer
                 alloc, command, files, entropy, clock, input, out, sealer, steps,
             )
         }
+        _ => unreachable!(),
     }
 }
 
