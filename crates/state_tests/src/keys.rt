@@ -6,7 +6,7 @@ use key_reach::{Debt, debts, entitled, lacks, reach, tainted};
 use std::alloc::Global;
 use std::test::Fail;
 use team_state::{Device, TeamState};
-use tg_text::{BoxLine, Bytes, DeviceId, Items, KeyId, Scope, Title, UserName};
+use tg_text::{BoxLine, Bytes, DeviceId, Items, KeyId, Memory, Scope, Title, UserName};
 
 fn device(user: UserName, number: u8, listed: bool) -> Device {
     Device {
@@ -46,7 +46,7 @@ fn user_key(user: UserName) -> KeyId
 }
 
 // Ann's two devices have her key, and with it the team's.
-fn boxes(alloc: Global, user: UserName) -> Result<Vec<BoxLine>, Fail> {
+fn boxes(alloc: Global, user: UserName) -> Result<Vec<BoxLine>, Memory> {
     let pairs = [
         (device_key(1), user_key(user)),
         (device_key(2), user_key(user)),
@@ -60,19 +60,31 @@ fn boxes(alloc: Global, user: UserName) -> Result<Vec<BoxLine>, Fail> {
     Ok(boxes)
 }
 
-// Ann, listed with both devices, and the boxes as above.
-fn two_devices(alloc: Global, user: UserName) -> Result<TeamState, Fail> {
-    let mut state = TeamState::new(alloc)?;
-    state.put_title(Title::read(b"Reef crew").ok_or("no title")?)?;
-    let roles = Items::new(alloc);
-    state.put_roles(user, roles)?;
+// Ann's devices are listed.
+fn put_devices(state: &mut TeamState, user: UserName) -> Result<(), Memory> {
     state.put_device(device(user, 1, true))?;
-    state.put_device(device(user, 2, true))?;
+    state.put_device(device(user, 2, true))
+}
+
+// The keys of the team and of ann are current, and the boxes are as above.
+fn put_keys(alloc: Global, state: &mut TeamState, user: UserName) -> Result<(), Memory> {
+    let boxes = boxes(alloc, user)?;
     state.put_key(team_key())?;
     state.put_key(user_key(user))?;
-    for line in &boxes(alloc, user)? {
+    for line in &boxes {
         state.put_box(line)?;
     }
+    Ok(())
+}
+
+// Ann, listed with both devices, and the boxes as above.
+fn two_devices(alloc: Global, user: UserName) -> Result<TeamState, Fail> {
+    let title = Title::read(b"Reef crew").ok_or("no title")?;
+    let mut state = TeamState::new(alloc)?;
+    state.put_title(title)?;
+    state.put_roles(user, Items::new(alloc))?;
+    put_devices(&mut state, user)?;
+    put_keys(alloc, &mut state, user)?;
     Ok(state)
 }
 
@@ -91,16 +103,23 @@ fn first_unlisted(alloc: Global, user: UserName) -> Result<TeamState, Fail> {
     Ok(state)
 }
 
-fn owes(alloc: Global, state: &TeamState, owed: &[Debt]) -> Result<bool, Fail> {
-    Ok(debts(alloc, state)?.as_slice() == owed)
+// Whether just these debts are owed, these pairs lack a box and these keys are tainted.
+fn owes(
+    alloc: Global,
+    state: &TeamState,
+    owed: &[Debt],
+    pairs: &[(KeyId, KeyId)],
+    keys: &[KeyId],
+) -> Result<bool, Memory> {
+    let is_owed = debts(alloc, state)?.as_slice() == owed;
+    let is_lacking = lacks(alloc, state)?.as_slice() == pairs;
+    let is_tainted = tainted(alloc, state)?.as_slice() == keys;
+    Ok(is_owed && is_lacking && is_tainted)
 }
 
-fn lacks_boxes(alloc: Global, state: &TeamState, pairs: &[(KeyId, KeyId)]) -> Result<bool, Fail> {
-    Ok(lacks(alloc, state)?.as_slice() == pairs)
-}
-
-fn taints(alloc: Global, state: &TeamState, keys: &[KeyId]) -> Result<bool, Fail> {
-    Ok(tainted(alloc, state)?.as_slice() == keys)
+// Whether the device of this number is entitled to the key of the team.
+fn is_entitled(state: &TeamState, number: u8) -> bool {
+    entitled(state, &DeviceId([number; 32]), &Scope::Team)
 }
 
 fn ann() -> Result<UserName, Fail> {
@@ -131,10 +150,7 @@ fn the_key_of_the_team_reaches_itself_alone(rt: HostRuntime) -> Result<(), Fail>
 fn nothing_is_owed_where_all_is_reached(rt: HostRuntime) -> Result<(), Fail> {
     let alloc = rt.alloc();
     let state = two_devices(alloc, ann()?)?;
-    assert!(rt; owes(alloc, &state, &[])?);
-    assert!(rt; lacks_boxes(alloc, &state, &[])?);
-    assert!(rt; taints(alloc, &state, &[])?);
-    assert!(rt; entitled(&state, &DeviceId([1; 32]), &Scope::Team));
+    assert!(rt; owes(alloc, &state, &[], &[], &[])? && is_entitled(&state, 1));
     Ok(())
 }
 
@@ -143,33 +159,24 @@ fn a_further_device_reaches_nothing(rt: HostRuntime) -> Result<(), Fail> {
     let alloc = rt.alloc();
     let (user, third) = (ann()?, DeviceId([3; 32]));
     let state = third_listed(alloc, user)?;
-    let of_team = Debt::Unreached(team_key(), third);
-    let of_user = Debt::Unreached(user_key(user), third);
-    assert!(rt; owes(alloc, &state, &[of_team, of_user])?);
-    assert!(rt; lacks_boxes(alloc, &state, &[(device_key(3), user_key(user))])?);
-    assert!(rt; entitled(&state, &third, &Scope::Team));
+    let owed = [
+        Debt::Unreached(team_key(), third),
+        Debt::Unreached(user_key(user), third),
+    ];
+    let pairs = [(device_key(3), user_key(user))];
+    assert!(rt; owes(alloc, &state, &owed, &pairs, &[])? && is_entitled(&state, 3));
     Ok(())
 }
 
+// What an unlisted device had is tainted, and owed anew.
 #[test]
 fn what_an_unlisted_device_had_is_tainted(rt: HostRuntime) -> Result<(), Fail> {
     let alloc = rt.alloc();
     let user = ann()?;
     let state = first_unlisted(alloc, user)?;
+    let owed = [Debt::Tainted(team_key()), Debt::Tainted(user_key(user))];
     let keys = [team_key(), user_key(user), device_key(1), device_key(3)];
-    assert!(rt; taints(alloc, &state, &keys)?);
-    assert!(rt; !entitled(&state, &DeviceId([1; 32]), &Scope::Team));
-    assert!(rt; entitled(&state, &DeviceId([2; 32]), &Scope::Team));
-    Ok(())
-}
-
-#[test]
-fn what_is_tainted_is_owed_anew(rt: HostRuntime) -> Result<(), Fail> {
-    let alloc = rt.alloc();
-    let user = ann()?;
-    let state = first_unlisted(alloc, user)?;
-    let (of_team, of_user) = (Debt::Tainted(team_key()), Debt::Tainted(user_key(user)));
-    assert!(rt; owes(alloc, &state, &[of_team, of_user])?);
-    assert!(rt; lacks_boxes(alloc, &state, &[])?);
+    assert!(rt; owes(alloc, &state, &owed, &[], &keys)?);
+    assert!(rt; !is_entitled(&state, 1) && is_entitled(&state, 2));
     Ok(())
 }

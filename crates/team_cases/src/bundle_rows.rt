@@ -39,7 +39,7 @@ fn items_of(alloc: Global, words: &str) -> Result<Items<Item>, SampleFault> {
     Ok(items)
 }
 
-// The items of bytes that come in parts of this size.
+// The items of bytes that come in parts of this size, each with an empty one after it.
 fn read_parts(alloc: Global, bytes: &[u8], size: usize) -> Result<Items<Item>, Memory>
     requires { 0 < size }
 {
@@ -47,6 +47,8 @@ fn read_parts(alloc: Global, bytes: &[u8], size: usize) -> Result<Items<Item>, M
     let mut items = Items::new(alloc);
     for part in bytes.chunks(size) {
         let answered = bundle.feed(part)?;
+        add_all(&mut items, answered)?;
+        let answered = bundle.feed(b"")?;
         add_all(&mut items, answered)?;
     }
     if let Some(item) = bundle.end() {

@@ -11,6 +11,9 @@
 //!     signed KEY LEAF NAME HEX   the file NAME is a link that this leaf of the key `own`, `other` or `tall` signs, with this name
 //!     file N PIECE ..            the pieces are a team file of N links, read as a view and as a graph
 //!     file BadFile PIECE ..      they are none
+//!     sum HEX PIECE ..           the SHA-256 of the pieces
+//!     past NAME TITLE = USER ..  the base is a team file, and the team of the link NAME with its ancestors has this title and these
+//!                                members alone
 //!     bundle ITEM .. = PIECE ..  the items of the pieces, read whole and in parts of 1 to 64 bytes: `H` a header, `TWORD` a text,
 //!                                `C` cut, `B` no frame, `L` too long
 //!
@@ -21,6 +24,7 @@
 mod bundle_rows;
 mod file_rows;
 mod link_rows;
+mod past_rows;
 mod signed_rows;
 mod table;
 

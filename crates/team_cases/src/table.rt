@@ -1,6 +1,7 @@
 use crate::bundle_rows::bundle_holds;
-use crate::file_rows::file_holds;
+use crate::file_rows::{file_holds, sum_holds};
 use crate::link_rows::{link_holds, name_holds, text_holds};
+use crate::past_rows::past_holds;
 use crate::signed_rows::signed_holds;
 use std::alloc::Global;
 use team_samples::{SampleFault, read_pieces};
@@ -62,8 +63,10 @@ fn case_holds<F: Files>(
         "text" => text_holds(alloc, base, row),
         "link" => link_holds(alloc, base, row),
         "name" => name_holds(alloc, base, row),
+        "past" => past_holds(alloc, base, row),
         "signed" => signed_holds(alloc, data, row),
         "file" => file_holds(alloc, data, row),
+        "sum" => sum_holds(alloc, data, row),
         "bundle" => bundle_holds(alloc, data, row),
         _ => Err(SampleFault::BadWord),
     }

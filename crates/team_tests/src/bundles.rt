@@ -4,21 +4,6 @@ use std::test::Fail;
 use team_files::{Bundle, Item};
 use tg_text::{Bytes, Memory};
 
-#[test]
-fn nothing_is_read_after_a_fault(rt: HostRuntime) -> Result<(), Fail> {
-    let mut bundle = Bundle::new(rt.alloc());
-    for (piece, items) in [
-        (&b"link 0\nli"[..], 1),
-        (&b""[..], 0),
-        (&b"no\nlink 0\n"[..], 1),
-        (&b"link 0\n"[..], 0),
-    ] {
-        assert_eq!(rt; bundle.feed(piece)?.len(), items);
-    }
-    assert!(rt; bundle.end().is_none());
-    Ok(())
-}
-
 // 4,096 pieces of 65,536 bytes, as many bytes as are judged; the first one begins a frame that is longer. How many items they
 // give. (Built with a sanitizer, as `rt try` does, this is slow.)
 fn feed_all(alloc: Global, bundle: &mut Bundle) -> Result<usize, Memory> {

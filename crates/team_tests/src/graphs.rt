@@ -59,50 +59,46 @@ fn are_same(alloc: Global, graph: &Graph, other: &Graph) -> Result<bool, Memory>
 }
 
 // The history's links, forwards, and its graph of them.
-fn forwards(alloc: Global) -> Result<(History, Graph), Fail> {
-    let history = make_history(alloc, 3, LINKS as u64)?;
-    let order = all_but(alloc, LINKS, LINKS)?;
-    let graph = graph_of(alloc, &history, order.as_slice()).ok_or("not taken")?;
-    Ok((history, graph))
+fn forwards(alloc: Global) -> Option<(History, Graph)> {
+    let history = make_history(alloc, 3, LINKS as u64).ok()?;
+    let order = all_but(alloc, LINKS, LINKS).ok()?;
+    let graph = graph_of(alloc, &history, order.as_slice())?;
+    Some((history, graph))
 }
 
 // Whether the links in another order are the same graph.
-fn is_same_shuffled(
-    alloc: Global,
-    history: &History,
-    graph: &Graph,
-    state: u64,
-) -> Result<bool, Fail> {
-    let order = all_but(alloc, LINKS, LINKS)?;
-    let order = shuffled(alloc, &mut Draws { state }, order.as_slice())?;
-    let other = graph_of(alloc, history, order.as_slice()).ok_or("not taken")?;
-    Ok(are_same(alloc, graph, &other)?)
+fn is_same_shuffled(alloc: Global, history: &History, graph: &Graph, state: u64) -> Option<bool> {
+    let order = all_but(alloc, LINKS, LINKS).ok()?;
+    let order = shuffled(alloc, &mut Draws { state }, order.as_slice()).ok()?;
+    let other = graph_of(alloc, history, order.as_slice())?;
+    are_same(alloc, graph, &other).ok()
 }
 
 // Forwards and in five other orders.
 #[test]
 fn links_in_any_order_are_one_graph(rt: HostRuntime) -> Result<(), Fail> {
     let alloc = rt.alloc();
-    let (history, graph) = forwards(alloc)?;
+    let (history, graph) = forwards(alloc).ok_or("not taken")?;
     assert!(rt; graph.connected() == LINKS as u32);
     for state in 0..5 {
-        assert!(rt;
-            is_same_shuffled(alloc, &history, &graph, state)?,
-            "order {state}"
-        );
+        assert!(rt; is_same_shuffled(alloc, &history, &graph, state) == Some(true));
     }
     Ok(())
+}
+
+// Whether a graph is that which is read from its file.
+fn is_same_read(alloc: Global, graph: &Graph) -> Option<bool> {
+    let file = file_text(alloc, graph).ok()?;
+    let read = read_graph(alloc, file.as_slice()).ok()?;
+    let is_same = are_same(alloc, graph, &read).ok()?;
+    Some(is_same && file.len() as u64 == graph.file_bytes())
 }
 
 // A graph that is read from the file, in the order of names.
 #[test]
 fn the_file_of_a_graph_is_that_graph(rt: HostRuntime) -> Result<(), Fail> {
-    let alloc = rt.alloc();
-    let graph = forwards(alloc)?.1;
-    let file = file_text(alloc, &graph)?;
-    assert!(rt; file.len() as u64 == graph.file_bytes());
-    let read = read_graph(alloc, file.as_slice()).ok().ok_or("no file")?;
-    assert!(rt; are_same(alloc, &graph, &read)?);
+    let (_history, graph) = forwards(rt.alloc()).ok_or("not taken")?;
+    assert!(rt; is_same_read(rt.alloc(), &graph) == Some(true));
     Ok(())
 }
 
@@ -116,29 +112,39 @@ fn are_passed_on(graph: &mut Graph, other: &Graph, positions: &[u32]) -> bool {
     true
 }
 
+// Whether a graph of the first three links is the same once it was given what it lacks.
+fn is_same_passed_on(alloc: Global, history: &History, graph: &Graph) -> Option<bool> {
+    let mut other = graph_of(alloc, history, &[0, 1, 2])?;
+    let lacking = graph.below(graph.heads(), other.heads()).ok()?;
+    let are_passed = are_passed_on(&mut other, graph, lacking.as_slice());
+    let is_same = are_same(alloc, graph, &other).ok()?;
+    Some(are_passed && is_same && lacking.len() == LINKS - 3)
+}
+
 // What is below the heads of one graph and not below those of another is what the other lacks, parents first.
 #[test]
 fn links_below_heads_are_passed_on(rt: HostRuntime) -> Result<(), Fail> {
-    let alloc = rt.alloc();
-    let (history, graph) = forwards(alloc)?;
-    let mut other = graph_of(alloc, &history, &[0, 1, 2]).ok_or("not taken")?;
-    let lacking = graph.below(graph.heads(), other.heads())?;
-    assert!(rt; lacking.len() == LINKS - 3);
-    assert!(rt; are_passed_on(&mut other, &graph, lacking.as_slice()));
-    assert!(rt; are_same(alloc, &graph, &other)?);
+    let (history, graph) = forwards(rt.alloc()).ok_or("not taken")?;
+    assert!(rt; is_same_passed_on(rt.alloc(), &history, &graph) == Some(true));
     Ok(())
+}
+
+// Whether the links of these positions are below some names and not below others.
+fn are_below(graph: &Graph, names: &[LinkName], others: &[LinkName], positions: &[u32]) -> bool {
+    match graph.below(names, others) {
+        Ok(below) => below.as_slice() == positions,
+        Err(_) => false,
+    }
 }
 
 // All links are below the heads, and none where the same names are left out or no name is connected.
 #[test]
 fn links_are_below_names(rt: HostRuntime) -> Result<(), Fail> {
-    let alloc = rt.alloc();
-    let (history, graph) = forwards(alloc)?;
-    let far = make_history(alloc, 2, 1)?;
-    assert!(rt; graph.below(graph.heads(), &[])?.as_slice() == graph.order());
-    assert!(rt; graph.below(graph.heads(), graph.heads())?.is_empty());
-    assert!(rt; graph.below(&[history.team], &[far.team])?.as_slice() == [0].as_slice());
-    assert!(rt; graph.below(&[far.team], &[])?.is_empty());
+    let (history, graph) = forwards(rt.alloc()).ok_or("not taken")?;
+    let (heads, root, far) = (graph.heads(), [history.team], [LinkName([7; 32])]);
+    assert!(rt; are_below(&graph, heads, &[], graph.order()));
+    assert!(rt; are_below(&graph, heads, heads, &[]));
+    assert!(rt; are_below(&graph, &root, &far, &[0]) && are_below(&graph, &far, &[], &[]));
     Ok(())
 }
 
@@ -193,25 +199,49 @@ fn are_empty(graph: &Graph, replica: &Replica) -> bool {
         && replica.state().is_empty()
 }
 
+// A graph and a replica of a team.
+#[derive(Drop)]
+struct Both {
+    alloc: Global,
+    graph: Graph,
+    replica: Replica,
+}
+
+impl Both {
+    fn new(alloc: Global, team: LinkName) -> Result<Both, Memory> {
+        Ok(Both {
+            alloc,
+            graph: Graph::new(alloc, team),
+            replica: Replica::new(alloc, team)?,
+        })
+    }
+
+    // Whether both refuse a text for this reason, and are empty still.
+    fn refuse(&mut self, text: &[u8], fault: TakeFault) -> bool {
+        graph_refuses(&mut self.graph, text, fault)
+            && replica_refuses(self.alloc, &mut self.replica, text, fault)
+            && are_empty(&self.graph, &self.replica)
+    }
+}
+
+// The root of another team, and a link after the root with a signature of three bytes.
+fn wrong_links(alloc: Global, history: &History) -> Option<(Bytes, Bytes)> {
+    let far = make_history(alloc, 2, 1).ok()?;
+    let root = far.texts.first()?.copy(alloc).ok()?;
+    let child = unsigned(alloc, history.texts.get(1)?).ok()?;
+    Some((root, child))
+}
+
 // What is refused leaves a graph and a replica as they were.
 #[test]
 fn texts_are_refused(rt: HostRuntime) -> Result<(), Fail> {
-    let alloc = rt.alloc();
-    let (history, far) = (make_history(alloc, 1, 2)?, make_history(alloc, 2, 1)?);
-    let far_root = far.texts.first().ok_or("no root")?;
-    let child = unsigned(alloc, history.texts.get(1).ok_or("no link")?)?;
-    let long = vec![in alloc; b'a'; 1_048_577]?;
-    let mut graph = Graph::new(alloc, history.team);
-    let mut replica = Replica::new(alloc, history.team)?;
-    for (text, fault) in [
-        (far_root.as_slice(), TakeFault::OtherTeam),
-        (child.as_slice(), TakeFault::BadSignature),
-        (b"team-link 2\n".as_slice(), TakeFault::BadText),
-        (long.as_slice(), TakeFault::TooLong),
-    ] {
-        assert!(rt; graph_refuses(&mut graph, text, fault));
-        assert!(rt; replica_refuses(alloc, &mut replica, text, fault));
-    }
-    assert!(rt; are_empty(&graph, &replica));
+    let history = make_history(rt.alloc(), 1, 2)?;
+    let (far, child) = wrong_links(rt.alloc(), &history).ok_or("no links")?;
+    let long = vec![in rt.alloc(); b'a'; 1_048_577]?;
+    let mut both = Both::new(rt.alloc(), history.team)?;
+    assert!(rt; both.refuse(far.as_slice(), TakeFault::OtherTeam));
+    assert!(rt; both.refuse(child.as_slice(), TakeFault::BadSignature));
+    assert!(rt; both.refuse(b"team-link 2\n", TakeFault::BadText));
+    assert!(rt; both.refuse(long.as_slice(), TakeFault::TooLong));
     Ok(())
 }

@@ -9,6 +9,4 @@ mod graphs;
 #[cfg(test)]
 mod histories;
 #[cfg(test)]
-mod reef;
-#[cfg(test)]
 mod undoing;

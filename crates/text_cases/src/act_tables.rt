@@ -1,11 +1,11 @@
 //! The tables of acts, of what proofs of admissions sign, and of devices.
-use crate::field_tables::in_hex;
+use crate::field_tables::{in_hex, named};
 use crate::tables::says;
 use acts::{Act, Entry, InviteKind, device_of, needs_admin, proof_body};
 use std::alloc::Global;
 use tg_text::{
-    Bytes, DeviceId, Items, KeyLines, Lines, LinkName, Memory, PublicKey, UserName, read_hex32,
-    split_once,
+    Bytes, DeviceId, Items, KeyLines, Lines, LinkName, Memory, PublicKey, RoleName, Scope,
+    UserName, read_hex32, split_once, write_hex,
 };
 
 pub fn act(alloc: Global, text: &[u8]) -> Result<Option<Bytes>, Memory> {
@@ -15,6 +15,43 @@ pub fn act(alloc: Global, text: &[u8]) -> Result<Option<Bytes>, Memory> {
     let mut out = Bytes::new(alloc);
     act.write(&mut out)?;
     Ok(Some(out))
+}
+
+/// The fields of an act that gives a role, of one that sets a title, in digits, or of one that rotates a user's key, each
+/// after a `/`.
+pub fn act_fields(alloc: Global, text: &[u8]) -> Result<Option<Bytes>, Memory> {
+    let Some(act) = Act::read(alloc, text)? else {
+        return Ok(None);
+    };
+    fields_of(alloc, &act)
+}
+
+fn fields_of(alloc: Global, act: &Act) -> Result<Option<Bytes>, Memory> {
+    match act {
+        Act::GiveRole { user, role } => given_role(alloc, user, role),
+        Act::Title { title } => {
+            let mut out = Bytes::from_slice(alloc, b"title/")?;
+            write_hex(&mut out, title.as_slice())?;
+            Ok(Some(out))
+        }
+        Act::Rotate { scope } => rotated(alloc, scope),
+        _ => Ok(None),
+    }
+}
+
+fn given_role(alloc: Global, user: &UserName, role: &RoleName) -> Result<Option<Bytes>, Memory> {
+    let mut out = Bytes::from_slice(alloc, b"give_role/")?;
+    out.append(user.as_slice())?;
+    out.append(b"/")?;
+    out.append(role.as_slice())?;
+    Ok(Some(out))
+}
+
+fn rotated(alloc: Global, scope: &Scope) -> Result<Option<Bytes>, Memory> {
+    match scope {
+        Scope::User(user) => named(alloc, b"rotate/user/", user.as_slice()),
+        _ => Ok(None),
+    }
 }
 
 /// Whether only an admin may write the act, where bo writes it.

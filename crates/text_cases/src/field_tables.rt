@@ -1,8 +1,9 @@
 //! The tables of fields: what is read is written again, or spelled in another way.
+use crate::tables::says;
 use std::alloc::Global;
 use tg_text::{
     Bytes, KeyId, Memory, PublicKey, RoleName, Scope, Title, UserName, read_base64, read_decimal,
-    read_hex32, write_base64, write_decimal, write_hex, write_key_id, write_scope,
+    read_hex32, split_once, write_base64, write_decimal, write_hex, write_key_id, write_scope,
 };
 
 pub fn decimal(alloc: Global, text: &[u8]) -> Result<Option<Bytes>, Memory> {
@@ -93,6 +94,56 @@ pub fn key_id(alloc: Global, text: &[u8]) -> Result<Option<Bytes>, Memory> {
     let mut out = Bytes::new(alloc);
     write_key_id(&mut out, &key)?;
     Ok(Some(out))
+}
+
+/// The kind of a scope, and after a `/` its name.
+pub fn scope_kind(alloc: Global, text: &[u8]) -> Result<Option<Bytes>, Memory> {
+    match Scope::read(text) {
+        Some(scope) => kind_of(alloc, &scope),
+        None => Ok(None),
+    }
+}
+
+fn kind_of(alloc: Global, scope: &Scope) -> Result<Option<Bytes>, Memory> {
+    match scope {
+        Scope::Team => says(alloc, "team"),
+        Scope::Role(role) => named(alloc, b"role/", role.as_slice()),
+        Scope::User(user) => named(alloc, b"user/", user.as_slice()),
+        Scope::Device(device) => {
+            let mut out = Bytes::from_slice(alloc, b"device/")?;
+            write_hex(&mut out, device.as_slice())?;
+            Ok(Some(out))
+        }
+    }
+}
+
+/// A name after what stands before it.
+pub fn named(alloc: Global, front: &[u8], name: &[u8]) -> Result<Option<Bytes>, Memory> {
+    let mut out = Bytes::from_slice(alloc, front)?;
+    out.append(name)?;
+    Ok(Some(out))
+}
+
+/// Whether the first of two scopes, a space apart, is less.
+pub fn scopes_ascend(alloc: Global, text: &[u8]) -> Result<Option<Bytes>, Memory> {
+    let Some((less, greater)) = split_once(text, b' ') else {
+        return Ok(None);
+    };
+    let (Some(less), Some(greater)) = (Scope::read(less), Scope::read(greater)) else {
+        return Ok(None);
+    };
+    says(alloc, if less < greater { "yes" } else { "no" })
+}
+
+/// Whether the first of two keys, a space apart, is less.
+pub fn keys_ascend(alloc: Global, text: &[u8]) -> Result<Option<Bytes>, Memory> {
+    let Some((less, greater)) = split_once(text, b' ') else {
+        return Ok(None);
+    };
+    let (Some(less), Some(greater)) = (KeyId::read(less), KeyId::read(greater)) else {
+        return Ok(None);
+    };
+    says(alloc, if less < greater { "yes" } else { "no" })
 }
 
 /// Bytes in hexadecimal digits.
