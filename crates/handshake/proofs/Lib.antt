@@ -1,4 +1,5 @@
 mod Accepted
+mod Ending
 mod Spelled
 mod Taking
 mod Texts

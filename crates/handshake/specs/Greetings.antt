@@ -117,6 +117,11 @@ Takes s bytes old new result =
     (found : Option Message) × Reads IsMessage message_text bytes found
     × (result ≡ (reaction s old found).answer) × (new ≡ record old { stage = (reaction s old found).stage })
 
+-- What is sent for a message is a welcome of the team, and is read as one.
+abbrev pub IsReadAgain : Name → Next → Type 0
+IsReadAgain team (Send bytes) = (found : Option Message) → Reads IsMessage message_text bytes found → found ≡ Some (record { team = team; content = Welcomes })
+IsReadAgain team _ = Unit {0}
+
 -- An end is to sign a text.
 abbrev pub IsSign : Next → Type 0
 IsSign (Sign text) = Unit {0}

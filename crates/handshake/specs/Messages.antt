@@ -132,6 +132,6 @@ pub record IsSigned (s : Signed) : Type 0 where
   pub from : IsHash s.from
   pub to : IsHash s.to
 
--- A text is signed for one team, one nonce and two devices: a signature over it says nothing of any other.
+-- A text is signed for one team, one nonce and two devices: no text is signed for two of these.
 abbrev pub SignedTextsDiffer : Type 0
 SignedTextsDiffer = (s t : Signed) → IsSigned s → IsSigned t → signed_text s ≡ signed_text t → s ≡ t

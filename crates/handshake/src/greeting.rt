@@ -1,7 +1,7 @@
 ghost use Rattle.std.specs.Prelude.{◌≡◌, IfOk, Option, Some};
 ghost use Rattle.tg_text.specs.Reading.{Reads};
 ghost use Rattle.tg_text.specs.Spelling.{IsPublicKey};
-ghost use Rattle.handshake.specs.Greetings.{IsAsked, IsSign, Signs, Takes, claim_text, proved, shown, started};
+ghost use Rattle.handshake.specs.Greetings.{IsAsked, IsReadAgain, IsSign, Signs, Takes, claim_text, proved, shown, started};
 ghost use Rattle.handshake.specs.Messages.{IsMessage, message_text};
 ghost use Rattle.handshake.specs.declared.message.Message.{Message};
 ghost use Rattle.handshake.specs.declared.message.Content.TheVariants.{Claims, Proves};
@@ -69,6 +69,7 @@ impl Greeting {
     ) -> Result<Next, GreetFault>
         ensures takes { Takes state.now message.now self.old self.new result }
         ensures asked { IfOk result (λ next. IsSign next → IsAsked self.new.stage) }
+        ensures read_again { IfOk result (λ next. IsReadAgain self.old.team next) }
     {
         let found = read_message(alloc, message)?;
         let reaction = self.react(alloc, state, &found)?;

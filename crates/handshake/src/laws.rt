@@ -1,5 +1,5 @@
 //! Laws on greetings. The functions do nothing.
-ghost use Rattle.handshake.specs.Histories.{NoneIsAcceptedUnproved};
+ghost use Rattle.handshake.specs.Histories.{NoneEndsUnaccepted, NoneIsAcceptedUnproved};
 ghost use Rattle.handshake.specs.Messages.{MessageIsSpelledOnce, SignedTextsDiffer};
 
 /// No two messages have one text.
@@ -12,8 +12,13 @@ pub fn signed_texts_differ()
     ensures { SignedTextsDiffer }
 {}
 
-/// Whatever calls come, a greeting ends accepted only by a proof over its own nonce, made with the claimed key of a device that was listed
-/// when the proof was taken.
+/// Whatever calls come, a greeting is accepted only by a claim and then a proof over its own nonce, which verifies under the claimed key of
+/// a device that was listed when the claim was taken and when the proof was.
 pub fn none_is_accepted_unproved()
     ensures { NoneIsAcceptedUnproved }
+{}
+
+/// Whatever calls come, a greeting is ended with a device only after it was accepted with it, by a welcome.
+pub fn none_ends_unaccepted()
+    ensures { NoneEndsUnaccepted }
 {}

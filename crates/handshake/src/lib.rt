@@ -4,8 +4,8 @@
 //! message, and how far it is then. An end sends its claim (`Greeting::start`), takes the messages of the other end (`take`), and where it is
 //! asked to sign, hands the signature in (`signed`). It makes no signature itself, and sends nothing.
 //!
-//! `none_is_accepted_unproved` is the law over every list of calls: who is accepted has proved himself over this greeting's own nonce
-//! (`specs/Histories.antt`).
+//! Two laws are over every list of calls (`specs/Histories.antt`). `none_is_accepted_unproved`: of a device that is accepted a claim was
+//! taken and then a proof over this greeting's own nonce. `none_ends_unaccepted`: who has ended with a device had accepted it before.
 #![tactic(auto)]
 
 mod fault;
@@ -20,7 +20,9 @@ mod writing;
 
 pub use fault::GreetFault;
 pub use greeting::Greeting;
-pub use laws::{messages_are_spelled_once, none_is_accepted_unproved, signed_texts_differ};
+pub use laws::{
+    messages_are_spelled_once, none_ends_unaccepted, none_is_accepted_unproved, signed_texts_differ,
+};
 pub use message::Claim;
 pub use stage::{GreetState, Next};
 pub use writing::refuse_text;
