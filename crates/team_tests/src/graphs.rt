@@ -199,49 +199,25 @@ fn are_empty(graph: &Graph, replica: &Replica) -> bool {
         && replica.state().is_empty()
 }
 
-// A graph and a replica of a team.
-#[derive(Drop)]
-struct Both {
-    alloc: Global,
-    graph: Graph,
-    replica: Replica,
-}
-
-impl Both {
-    fn new(alloc: Global, team: LinkName) -> Result<Both, Memory> {
-        Ok(Both {
-            alloc,
-            graph: Graph::new(alloc, team),
-            replica: Replica::new(alloc, team)?,
-        })
-    }
-
-    // Whether both refuse a text for this reason, and are empty still.
-    fn refuse(&mut self, text: &[u8], fault: TakeFault) -> bool {
-        graph_refuses(&mut self.graph, text, fault)
-            && replica_refuses(self.alloc, &mut self.replica, text, fault)
-            && are_empty(&self.graph, &self.replica)
-    }
-}
-
-// The root of another team, and a link after the root with a signature of three bytes.
-fn wrong_links(alloc: Global, history: &History) -> Option<(Bytes, Bytes)> {
-    let far = make_history(alloc, 2, 1).ok()?;
-    let root = far.texts.first()?.copy(alloc).ok()?;
-    let child = unsigned(alloc, history.texts.get(1)?).ok()?;
-    Some((root, child))
-}
-
 // What is refused leaves a graph and a replica as they were.
 #[test]
 fn texts_are_refused(rt: HostRuntime) -> Result<(), Fail> {
-    let history = make_history(rt.alloc(), 1, 2)?;
-    let (far, child) = wrong_links(rt.alloc(), &history).ok_or("no links")?;
-    let long = vec![in rt.alloc(); b'a'; 1_048_577]?;
-    let mut both = Both::new(rt.alloc(), history.team)?;
-    assert!(rt; both.refuse(far.as_slice(), TakeFault::OtherTeam));
-    assert!(rt; both.refuse(child.as_slice(), TakeFault::BadSignature));
-    assert!(rt; both.refuse(b"team-link 2\n", TakeFault::BadText));
-    assert!(rt; both.refuse(long.as_slice(), TakeFault::TooLong));
+    let alloc = rt.alloc();
+    let (history, far) = (make_history(alloc, 1, 2)?, make_history(alloc, 2, 1)?);
+    let far_root = far.texts.first().ok_or("no root")?;
+    let child = unsigned(alloc, history.texts.get(1).ok_or("no link")?)?;
+    let long = vec![in alloc; b'a'; 1_048_577]?;
+    let mut graph = Graph::new(alloc, history.team);
+    let mut replica = Replica::new(alloc, history.team)?;
+    for (text, fault) in [
+        (far_root.as_slice(), TakeFault::OtherTeam),
+        (child.as_slice(), TakeFault::BadSignature),
+        (b"team-link 2\n".as_slice(), TakeFault::BadText),
+        (long.as_slice(), TakeFault::TooLong),
+    ] {
+        assert!(rt; graph_refuses(&mut graph, text, fault));
+        assert!(rt; replica_refuses(alloc, &mut replica, text, fault));
+    }
+    assert!(rt; are_empty(&graph, &replica));
     Ok(())
 }
